@@ -1,0 +1,93 @@
+-- The checks pass exactly for the sizes, boards and grids of givens.
+-- Assumes nothing.
+use mathlib.Core.Path.{_≡_, refl, sym}
+use mathlib.Core.Bool.{Bool, true, false, _&&_, true≢false}
+use mathlib.Core.Option.{Option, none, some}
+use mathlib.Core.List.{List}
+use Prim.Native.Nat.{ℕ, suc, _*_, _<_, _≤_}
+use native.Mathlib.Omega.{arith}
+use borrow.Author.Tests.{eqb-true, leb-true, eq-eqb, le-leb, lt-leb}
+use lib.Dec.{eqb, leb}
+use lib.ListN.{length, getD}
+use Rattle.board.specs.Search.{firstNot}
+use Rattle.board.specs.Answers.{gives, passed, _then_}
+use Rattle.board.specs.Boards.{among, Sized, Bytes, Board, Givens}
+use Rattle.board.specs.Checks.{lengthCheck, bytesCheck, widthCheck, heightCheck, sizeCheck, cellsCheck, givensCheck, boardCheck, atMost, ChecksRight}
+use Rattle.board.proofs.Answers.{then-gives, unless-gives, at-gives}
+use Rattle.board.proofs.Search.{Searched, searched, all-pass, fails-at, none-of}
+
+-- ---- the numbers 1 to n
+pub and-left : (s t : Bool) → s && t ≡ true → s ≡ true
+and-left true t e = refl
+and-left false t e = e
+
+pub and-right : (s t : Bool) → s && t ≡ true → t ≡ true
+and-right true t e = e
+and-right false t e = absurd (true≢false (sym e))
+
+pub among-yes : (n i : ℕ) → 0 < i → i ≤ n → among n i ≡ true
+among-yes n i p q = rw (le-leb 1 i p, le-leb i n q)
+
+pub among-in : (n i : ℕ) → among n i ≡ true → (0 < i) × (i ≤ n)
+among-in n i e = (leb-true 1 i (and-left (leb 1 i) (leb i n) e), leb-true i n (and-right (leb 1 i) (leb i n) e))
+
+pub among-past : (n i : ℕ) → n < i → among n i ≡ false
+among-past n i p = rw (le-leb 1 i (omega arith), lt-leb i n p)
+
+-- ---- the size
+pub sized : (w h : ℕ) {vs : List ℕ} → sizeCheck w h ≡ gives vs → Sized w h
+unfolding sizeCheck
+sized w h e =
+    let p = then-gives (widthCheck w) (heightCheck h) e in
+    let a = among-in 10 w (unless-gives (among 10 w) 1 (p .0 .1)) in
+    let b = among-in 60 h (unless-gives (among 60 h) 2 (p .1)) in
+    record { some-column = a .0; narrow = a .1; some-row = b .0; low = b .1 }
+
+pub size-passes : {w h : ℕ} → Sized w h → sizeCheck w h ≡ passed
+unfolding sizeCheck
+size-passes {w} {h} s = rw (among-yes 10 w (s .some-column) (s .narrow), among-yes 60 h (s .some-row) (s .low))
+
+-- ---- the bytes: their length, then each of them
+module _ (n m most w h : ℕ) (bytes : List ℕ) where
+  small : firstNot (atMost most bytes) (length bytes) ≡ none → (k : ℕ) → k < length bytes → getD bytes k 0 ≤ most
+  small e = go (firstNot (atMost most bytes) (length bytes)) (searched (atMost most bytes) (length bytes)) e
+    where
+      go : (o : Option ℕ) → Searched (atMost most bytes) (length bytes) o → o ≡ none → (k : ℕ) → k < length bytes → getD bytes k 0 ≤ most
+      go none (all-pass f) q k l = leb-true _ _ (f k l)
+      go (some i) (fails-at _ l p f) q k j = let z : _≡_ {A = ℕ} 0 1 = cc in omega arith
+
+  bytes-of : {vs : List ℕ} → (lengthCheck n w h bytes then bytesCheck m most bytes) ≡ gives vs → Bytes most w h bytes
+  bytes-of e =
+      let p = then-gives (lengthCheck n w h bytes) (bytesCheck m most bytes) e in
+      record { long = eqb-true _ _ (unless-gives _ n (p .0 .1)); states = small (at-gives _ m (p .1)) }
+
+  bytes-pass : Bytes most w h bytes → (lengthCheck n w h bytes then bytesCheck m most bytes) ≡ passed
+  bytes-pass b = rw (eq-eqb (length bytes) (w * h) (b .long), none-of (atMost most bytes) (length bytes) (λ k l. le-leb _ _ (b .states k l)))
+
+pub boarded : (w h : ℕ) (cells : List ℕ) {vs : List ℕ} → boardCheck w h cells ≡ gives vs → Board w h cells
+unfolding boardCheck cellsCheck
+boarded w h cells e =
+    let p = then-gives (sizeCheck w h) (cellsCheck w h cells) e in
+    record { size = sized w h (p .0 .1); bytes = bytes-of 5 11 1 w h cells (p .1) }
+
+pub board-passes : {w h : ℕ} {cells : List ℕ} → Board w h cells → boardCheck w h cells ≡ passed
+unfolding boardCheck cellsCheck
+board-passes {w} {h} {cells} b = rw (size-passes (b .size)) (bytes-pass 5 11 1 w h cells (b .bytes))
+
+pub marks-of : (w h : ℕ) (marks : List ℕ) {vs : List ℕ} → givensCheck w h marks ≡ gives vs → Bytes 2 w h marks
+unfolding givensCheck
+marks-of w h marks e = bytes-of 3 4 2 w h marks e
+
+pub marks-pass : {w h : ℕ} {marks : List ℕ} → Bytes 2 w h marks → givensCheck w h marks ≡ passed
+unfolding givensCheck
+marks-pass {w} {h} {marks} b = bytes-pass 3 4 2 w h marks b
+
+pub checks-right : ChecksRight
+checks-right = (
+  λ w h. (sized w h, size-passes),
+  λ w h cells. (boarded w h cells, board-passes),
+  λ w h marks. (
+    λ e. let p = then-gives (sizeCheck w h) (givensCheck w h marks) e in record { size = sized w h (p .0 .1); bytes = marks-of w h marks (p .1) },
+    λ g. rw (size-passes (g .size)) (marks-pass (g .bytes)),
+  ),
+)

@@ -1,0 +1,55 @@
+-- Document 01, "Turned away": when a size, a board and a grid of givens are turned away, in the order of the checks.
+-- Assumes nothing.
+use mathlib.Core.Path.{_≡_}
+use mathlib.Core.Logic.{_↔_}
+use mathlib.Core.Bool.{Bool}
+use mathlib.Core.List.{List}
+use Prim.Native.Nat.{ℕ, _*_}
+use lib.Dec.{eqb, leb}
+use lib.ListN.{length, getD}
+use Rattle.board.specs.Search.{firstNot}
+use Rattle.board.specs.Answers.{Answer, _then_, passed, refuseUnless, refuseAt}
+use Rattle.board.specs.Boards.{among, Sized, Board, Givens}
+
+-- 1, Width: w is 0 or above 10
+abbrev pub widthCheck : ℕ → Answer
+widthCheck w = refuseUnless (among 10 w) 1
+
+-- 2, Height: h is 0 or above 60
+abbrev pub heightCheck : ℕ → Answer
+heightCheck h = refuseUnless (among 60 h) 2
+
+-- 3 for givens, 5 for a board: not w × h long
+abbrev pub lengthCheck : ℕ → ℕ → ℕ → List ℕ → Answer
+lengthCheck n w h bytes = refuseUnless (eqb (length bytes) (w * h)) n
+
+-- the byte at a place is at most a limit
+abbrev pub atMost : ℕ → List ℕ → ℕ → Bool
+atMost most bytes place = leb (getD bytes place 0) most
+
+-- 4, Mark: a given not 0, 1 or 2; 11, Cell: a board byte not 0 or 1; with its first place from 0
+abbrev pub bytesCheck : ℕ → ℕ → List ℕ → Answer
+bytesCheck n most bytes = refuseAt (firstNot (atMost most bytes) (length bytes)) n
+
+-- 1, 2
+unfoldable pub sizeCheck : ℕ → ℕ → Answer
+sizeCheck w h = widthCheck w then heightCheck h
+
+-- 5, 11
+unfoldable pub cellsCheck : ℕ → ℕ → List ℕ → Answer
+cellsCheck w h cells = lengthCheck 5 w h cells then bytesCheck 11 1 cells
+
+-- 3, 4
+unfoldable pub givensCheck : ℕ → ℕ → List ℕ → Answer
+givensCheck w h marks = lengthCheck 3 w h marks then bytesCheck 4 2 marks
+
+-- stepping, judging and text out begin with 1, 2, 5, 11
+unfoldable pub boardCheck : ℕ → ℕ → List ℕ → Answer
+boardCheck w h cells = sizeCheck w h then cellsCheck w h cells
+
+-- the checks turn away exactly what is no size, no board, no grid of givens
+abbrev pub ChecksRight : Type 0
+ChecksRight =
+    ((w h : ℕ) → sizeCheck w h ≡ passed ↔ Sized w h) ×
+    ((w h : ℕ) (cells : List ℕ) → boardCheck w h cells ≡ passed ↔ Board w h cells) ×
+    ((w h : ℕ) (marks : List ℕ) → (sizeCheck w h then givensCheck w h marks) ≡ passed ↔ Givens w h marks)

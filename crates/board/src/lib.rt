@@ -1,0 +1,164 @@
+// What every call on a board shares: the refusals, and the checks of a size, a board and a grid of givens.
+ghost use mathlib.Core.Path.{_≡_};
+ghost use Prim.Native.Nat.{_*_};
+ghost use lib.Dec.{eqb};
+ghost use lib.ListN.{length};
+ghost use Rattle.board.specs.Answers.{numberOf, checkSays, placeOf};
+ghost use Rattle.board.specs.Boards.{among};
+ghost use Rattle.board.specs.Checks.{widthCheck, heightCheck, sizeCheck, cellsCheck, boardCheck, givensCheck, atMost};
+ghost use Rattle.board.specs.Search.{firstNot};
+
+// Why a call is turned away, in the order of document 01's numbers, with the first wrong place where the table gives one.
+pub enum Refusal {
+    Width,
+    Height,
+    GivensLength,
+    Mark(usize),
+    BoardLength,
+    ShortTable,
+    Checkpoint,
+    Letter(usize),
+    SpoiledTable,
+    ShortOutput,
+    Cell(usize),
+    LongText,
+}
+
+// What a check comes to.
+pub enum Check {
+    Passed,
+    Refused(Refusal),
+}
+
+impl Refusal {
+    // The number of document 01's table.
+    pub fn number(self) -> u8
+        ensures { λ r. ⌜ r ≡ numberOf self ⌝ }
+    {
+        match self {
+            Refusal::Width => 1,
+            Refusal::Height => 2,
+            Refusal::GivensLength => 3,
+            Refusal::Mark(_) => 4,
+            Refusal::BoardLength => 5,
+            Refusal::ShortTable => 6,
+            Refusal::Checkpoint => 7,
+            Refusal::Letter(_) => 8,
+            Refusal::SpoiledTable => 9,
+            Refusal::ShortOutput => 10,
+            Refusal::Cell(_) => 11,
+            Refusal::LongText => 12,
+        }
+    }
+}
+
+// 1: width 1 to 10.
+pub fn check_width(w: usize) -> Check
+    ensures { λ r. ⌜ checkSays r ≡ widthCheck w ⌝ }
+{
+    if is_among(10, w) {
+        Check::Passed
+    } else {
+        Check::Refused(Refusal::Width)
+    }
+}
+
+// 2: height 1 to 60.
+pub fn check_height(h: usize) -> Check
+    ensures { λ r. ⌜ checkSays r ≡ heightCheck h ⌝ }
+{
+    if is_among(60, h) {
+        Check::Passed
+    } else {
+        Check::Refused(Refusal::Height)
+    }
+}
+
+// 1, 2: width, then height.
+pub fn check_size(w: usize, h: usize) -> Check
+    ensures { λ r. ⌜ checkSays r ≡ sizeCheck w h ⌝ }
+{
+    if let Check::Refused(r) = check_width(w) {
+        return Check::Refused(r);
+    }
+    check_height(h)
+}
+
+// 1, 2, 5, 11: the size, then w × h cells, each 0 or 1.
+pub fn check_board(w: usize, h: usize, cells: &[u8]) -> Check
+    ensures { λ r. ⌜ checkSays r ≡ boardCheck w h (now (cells .entry)) ⌝ }
+{
+    if let Check::Refused(r) = check_size(w, h) {
+        return Check::Refused(r);
+    }
+    check_cells(w, h, cells)
+}
+
+// 3, 4: w × h marks, each 0, 1 or 2.
+pub fn check_givens(w: usize, h: usize, givens: &[u8]) -> Check
+    ensures { λ r. ⌜ checkSays r ≡ givensCheck w h (now (givens .entry)) ⌝ }
+{
+    if !has_length(givens, w, h) {
+        return Check::Refused(Refusal::GivensLength);
+    }
+    match first_above(givens, 2) {
+        Place::At(i) => Check::Refused(Refusal::Mark(i)),
+        Place::Nowhere => Check::Passed,
+    }
+}
+
+// Whether there are w × h bytes, for any w and h: the product is never formed.
+pub fn has_length(bytes: &[u8], w: usize, h: usize) -> bool
+    ensures { λ r. ⌜ r ≡ eqb (length (now (bytes .entry))) (w * h) ⌝ }
+{
+    let n = bytes.len();
+    if w == 0 {
+        return n == 0;
+    }
+    if n % w != 0 {
+        return false;
+    }
+    n / w == h
+}
+
+// 5, 11: w × h cells, each 0 or 1.
+fn check_cells(w: usize, h: usize, cells: &[u8]) -> Check
+    ensures { λ r. ⌜ checkSays r ≡ cellsCheck w h (now (cells .entry)) ⌝ }
+{
+    if !has_length(cells, w, h) {
+        return Check::Refused(Refusal::BoardLength);
+    }
+    match first_above(cells, 1) {
+        Place::At(i) => Check::Refused(Refusal::Cell(i)),
+        Place::Nowhere => Check::Passed,
+    }
+}
+
+// Whether a number is one of 1 to a limit.
+fn is_among(limit: usize, i: usize) -> bool
+    ensures { λ r. ⌜ r ≡ among limit i ⌝ }
+{
+    if i < 1 {
+        return false;
+    }
+    i <= limit
+}
+
+enum Place {
+    Nowhere,
+    At(usize),
+}
+
+// The first byte above a limit.
+fn first_above(bytes: &[u8], most: u8) -> Place
+    ensures { λ r. ⌜ placeOf r ≡ firstNot (atMost most (now (bytes .entry))) (length (now (bytes .entry))) ⌝ }
+{
+    let mut i = 0;
+    while i < bytes.len() {
+        if most < bytes[i] {
+            return Place::At(i);
+        }
+        i += 1;
+    }
+    Place::Nowhere
+}
