@@ -1,38 +1,19 @@
 -- The checks pass exactly for the sizes, boards and grids of givens.
 -- Assumes nothing.
-use mathlib.Core.Path.{_≡_, refl, sym}
-use mathlib.Core.Bool.{Bool, true, false, _&&_, true≢false}
+use mathlib.Core.Path.{_≡_}
 use mathlib.Core.Option.{Option, none, some}
 use mathlib.Core.List.{List}
 use Prim.Native.Nat.{ℕ, suc, _*_, _<_, _≤_}
 use native.Mathlib.Omega.{arith}
-use borrow.Author.Tests.{eqb-true, leb-true, eq-eqb, le-leb, lt-leb}
-use lib.Dec.{eqb, leb}
+use borrow.Author.Tests.{eqb-true, leb-true, eq-eqb, le-leb}
 use lib.ListN.{length, getD}
 use Rattle.board.specs.Search.{firstNot}
 use Rattle.board.specs.Answers.{gives, passed, _then_}
 use Rattle.board.specs.Boards.{among, Sized, Bytes, Board, Givens}
 use Rattle.board.specs.Checks.{lengthCheck, bytesCheck, widthCheck, heightCheck, sizeCheck, cellsCheck, givensCheck, boardCheck, atMost, ChecksRight}
+use Rattle.board.proofs.Tests.{among-yes, among-in}
 use Rattle.board.proofs.Answers.{then-gives, unless-gives, at-gives}
 use Rattle.board.proofs.Search.{Searched, searched, all-pass, fails-at, none-of}
-
--- ---- the numbers 1 to n
-pub and-left : (s t : Bool) → s && t ≡ true → s ≡ true
-and-left true t e = refl
-and-left false t e = e
-
-pub and-right : (s t : Bool) → s && t ≡ true → t ≡ true
-and-right true t e = e
-and-right false t e = absurd (true≢false (sym e))
-
-pub among-yes : (n i : ℕ) → 0 < i → i ≤ n → among n i ≡ true
-among-yes n i p q = rw (le-leb 1 i p, le-leb i n q)
-
-pub among-in : (n i : ℕ) → among n i ≡ true → (0 < i) × (i ≤ n)
-among-in n i e = (leb-true 1 i (and-left (leb 1 i) (leb i n) e), leb-true i n (and-right (leb 1 i) (leb i n) e))
-
-pub among-past : (n i : ℕ) → n < i → among n i ≡ false
-among-past n i p = rw (le-leb 1 i (omega arith), lt-leb i n p)
 
 -- ---- the size
 pub sized : (w h : ℕ) {vs : List ℕ} → sizeCheck w h ≡ gives vs → Sized w h

@@ -1,0 +1,26 @@
+-- Laws of the tests that definitions are made of: both of two, and one of 1 to n.
+-- Assumes nothing.
+use mathlib.Core.Path.{_≡_, refl, sym}
+use mathlib.Core.Bool.{Bool, true, false, _&&_, true≢false}
+use Prim.Native.Nat.{ℕ, _<_, _≤_}
+use native.Mathlib.Omega.{arith}
+use borrow.Author.Tests.{leb-true, le-leb, lt-leb}
+use lib.Dec.{leb}
+use Rattle.board.specs.Boards.{among}
+
+pub and-left : (s t : Bool) → s && t ≡ true → s ≡ true
+and-left true t e = refl
+and-left false t e = e
+
+pub and-right : (s t : Bool) → s && t ≡ true → t ≡ true
+and-right true t e = e
+and-right false t e = absurd (true≢false (sym e))
+
+pub among-yes : (n i : ℕ) → 0 < i → i ≤ n → among n i ≡ true
+among-yes n i p q = rw (le-leb 1 i p, le-leb i n q)
+
+pub among-in : (n i : ℕ) → among n i ≡ true → (0 < i) × (i ≤ n)
+among-in n i e = (leb-true 1 i (and-left (leb 1 i) (leb i n) e), leb-true i n (and-right (leb 1 i) (leb i n) e))
+
+pub among-past : (n i : ℕ) → n < i → among n i ≡ false
+among-past n i p = rw (le-leb 1 i (omega arith), lt-leb i n p)

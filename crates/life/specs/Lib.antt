@@ -1,0 +1,5 @@
+pub mod Rule
+pub mod Plane
+pub mod Rows
+pub mod Calls
+pub mod Theorems

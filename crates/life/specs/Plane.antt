@@ -1,0 +1,54 @@
+-- Life on the whole plane. Rows and columns are integers; a board stands in rows 1 to h and columns 1 to w, and every other cell is dead.
+-- Assumes nothing.
+use mathlib.Core.Path.{_≡_}
+use mathlib.Core.Bool.{cond, _&&_}
+use mathlib.Core.List.{List}
+use Prim.Native.Nat.{ℕ, _+_, _*_, _-_}
+use lib.IntN.{ℤ, pos, negsuc, sucℤ, predℤ}
+use lib.ListN.{getD}
+use Rattle.board.specs.Boards.{among}
+use Rattle.life.specs.Rule.{nextState}
+
+-- a state for each row and column, 0 dead, 1 live
+abbrev pub Plane : Type 0
+Plane = ℤ → ℤ → ℕ
+
+-- a board of w × h cells in reading order, on the plane
+unfoldable pub onPlane : ℕ → ℕ → List ℕ → Plane
+onPlane w h cells (pos r) (pos c) = cond (among h r && among w c) (getD cells ((r - 1) * w + (c - 1)) 0) 0
+onPlane w h cells (pos r) (negsuc c) = 0
+onPlane w h cells (negsuc r) c = 0
+
+-- the live neighbours of a cell
+abbrev pub neighbours : Plane → ℤ → ℤ → ℕ
+neighbours P r c =
+    P (predℤ r) (predℤ c) + P (predℤ r) c + P (predℤ r) (sucℤ c) + P r (predℤ c) + P r (sucℤ c) + P (sucℤ r) (predℤ c) + P (sucℤ r) c
+    + P (sucℤ r) (sucℤ c)
+
+-- one step of Life
+abbrev pub lifeStep : Plane → Plane
+lifeStep P r c = nextState (P r c) (neighbours P r c)
+
+-- a still life: one step changes no cell of the plane
+unfoldable pub Still : Plane → Type 0
+Still P = (r c : ℤ) → lifeStep P r c ≡ P r c
+
+-- three neighbouring cells of a row, as three digits
+abbrev pub three : (ℤ → ℕ) → ℤ → ℕ
+three row c = 4 * row (predℤ c) + 2 * row c + row (sucℤ c)
+
+-- the 3 by 3 pattern around a cell of the middle of three rows
+abbrev pub nine : (ℤ → ℕ) → (ℤ → ℕ) → (ℤ → ℕ) → ℤ → ℕ
+nine above row below c = 64 * three above c + 8 * three row c + three below c
+
+-- the 3 by 3 pattern around a cell of the plane
+unfoldable pub around : Plane → ℤ → ℤ → ℕ
+around P r c = nine (P (predℤ r)) (P r) (P (sucℤ r)) c
+
+-- one step by a next-state table of the 512 patterns
+abbrev pub tableStep : (ℕ → ℕ) → Plane → Plane
+tableStep next P r c = next (around P r c)
+
+-- one step by the table changes no cell of the plane
+unfoldable pub StillBy : (ℕ → ℕ) → Plane → Type 0
+StillBy next P = (r c : ℤ) → tableStep next P r c ≡ P r c
