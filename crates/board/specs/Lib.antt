@@ -1,4 +1,5 @@
 pub mod Search
+pub mod Sums
 pub mod Answers
 pub mod Boards
 pub mod Checks

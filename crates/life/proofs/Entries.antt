@@ -3,11 +3,13 @@
 use mathlib.Core.Path.{_≡_, refl, _∙_, ap}
 use mathlib.Core.Bool.{Bool, cond}
 use mathlib.Core.List.{List}
-use Prim.Native.Nat.{ℕ, zero, suc, _<_}
+use Prim.Native.Nat.{ℕ}
 use native.Mathlib.Omega.{arith}
 use lib.Dec.{T, eqb, eqb→eq}
 use lib.ListN.{length, getD}
-use Rattle.life.specs.Rule.{Conway, conway, entryOf, total, unchanged, digit}
+use Rattle.board.specs.Sums.{total}
+use Rattle.board.proofs.Sums.{total-same}
+use Rattle.life.specs.Rule.{Conway, conway, entryOf, unchanged, digit}
 use Rattle.life.specs.Theorems.{Counts}
 use Rattle.life.proofs.Every.{every, at}
 
@@ -18,12 +20,6 @@ right p x = eqb x (conway p)
 pub conway-table : (table : List ℕ) → length table ≡ 512 → T (every right 0 table) → Conway table
 unfolding right
 conway-table table n t = record { entry = λ p l. eqb→eq (getD table p 0) (conway p) (at right table t p (omega arith)) }
-
--- sums of equal numbers are equal
-total-same : (f g : ℕ → ℕ) (n : ℕ) → ((k : ℕ) → k < n → f k ≡ g k) → total f n ≡ total g n
-unfolding total
-total-same f g zero e = refl
-total-same f g (suc n) e = rw (total-same f g n (λ k l. e k (omega arith)), e n (omega arith))
 
 -- 140 live, 284 unchanged
 conway-counts : (total conway 512 ≡ 140) × (total (unchanged conway) 512 ≡ 284)

@@ -20,9 +20,13 @@ rowNumber cells place (suc n) = 2 * rowNumber cells place n + getD cells (place 
 unfoldable pub rowOf : ℕ → ℕ → List ℕ → ℕ → ℕ
 rowOf w h cells r = cond (among h r) (rowNumber cells ((r - 1) * w) w) 0
 
--- the cell of a row in each column, columns 1 to w; dead outside
+-- the binary digit of a row in column c, 1 to w
+abbrev pub digitIn : ℕ → ℕ → ℕ → ℕ
+digitIn w row c = row / 2 ^ (w - c) % 2
+
+-- the cell of a row in each column; columns outside 1 to w are dead
 unfoldable pub cellOf : ℕ → ℕ → ℤ → ℕ
-cellOf w row (pos c) = cond (among w c) (row / 2 ^ (w - c) % 2) 0
+cellOf w row (pos c) = cond (among w c) (digitIn w row c) 0
 cellOf w row (negsuc c) = 0
 
 -- columns c - 1, c and c + 1 of a row, as three digits, from its number

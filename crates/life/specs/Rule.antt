@@ -3,7 +3,7 @@
 use mathlib.Core.Path.{_≡_}
 use mathlib.Core.Bool.{cond}
 use mathlib.Core.List.{List}
-use Prim.Native.Nat.{ℕ, zero, suc, _+_, _/_, _%_, _<_}
+use Prim.Native.Nat.{ℕ, _+_, _/_, _%_, _<_}
 use lib.Dec.{eqb, leb}
 use lib.ListN.{getD}
 
@@ -26,11 +26,6 @@ entryOf table p = getD table p 0
 -- a table of the 512 patterns holds Life's rule
 pub record Conway (table : List ℕ) : Type 0 where
   pub entry : (p : ℕ) → p < 512 → entryOf table p ≡ conway p
-
--- the sum of f over the numbers below n
-unfoldable pub total : (ℕ → ℕ) → ℕ → ℕ
-total f zero = 0
-total f (suc n) = total f n + f n
 
 -- 1 where the pattern leaves its centre unchanged
 abbrev pub unchanged : (ℕ → ℕ) → ℕ → ℕ

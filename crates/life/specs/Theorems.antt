@@ -6,9 +6,10 @@ use mathlib.Core.List.{List}
 use Prim.Native.Nat.{ℕ, _+_, _^_, _<_, _≤_}
 use lib.IntN.{ℤ, pos, sucℤ}
 use lib.ListN.{length}
+use Rattle.board.specs.Sums.{total}
 use Rattle.board.specs.Answers.{passed}
 use Rattle.board.specs.Boards.{Board}
-use Rattle.life.specs.Rule.{Conway, conway, total, unchanged, entryOf}
+use Rattle.life.specs.Rule.{Conway, conway, unchanged, entryOf}
 use Rattle.life.specs.Plane.{Plane, onPlane, three, lifeStep, tableStep, Still, StillBy}
 use Rattle.life.specs.Rows.{RowsAgree, cellOf, window}
 use Rattle.life.specs.Calls.{stepRule, stepWrites, judgeRule, verdictSays, still, changes}
