@@ -1,0 +1,1 @@
+// Row elimination over any kind of job: definitions in specs/, laws in proofs/, no code.

@@ -1,0 +1,40 @@
+-- `solver::Checkpoint::resume` meets its contract: the numbers' test decides, and the job of numbers that fit has those numbers.
+-- Assumes nothing.
+use mathlib.Core.Path.{_≡_, sym, _∙_}
+use mathlib.Core.Bool.{true}
+use Prim.Native.Nat.{ℕ}
+use native.Mathlib.Omega.{arith}
+use borrow.Author.Needs.{needs}
+use borrow.Author.Tests.{not-true, not-false}
+use Rattle.solver.specs.Jobs.{checkpointFits, resumeRule}
+use Rattle.solver.proofs.Checkpoints.{numbers-back}
+use Rattle.solver.proofs.Fits.{numbers-at}
+use Rattle.solver.proofs.Checkpoint.resume.Statement.{statement}
+use Rattle.solver.proofs.Checkpoint.resume.Tie as tie
+
+-- past the test the numbers fit
+numbers-fit : (c : tie.Else1) → checkpointFits (c .before .before .args .self) ≡ true
+numbers-fit c = sym (c .before .checkpoint-fits .ensures) ∙ not-false _ (c .if1 .left)
+
+checkpoint-fits-requires : tie.Need-checkpoint-fits-requires
+checkpoint-fits-requires c κs = search needs
+
+returns : tie.Need-returns
+unfolding resumeRule
+returns c = record {
+  says = simp (sym (c .before .checkpoint-fits .ensures) ∙ not-true _ (c .if1 .taken));
+  job = λ j e. absurd (let z : _≡_ {A = ℕ} 0 1 = cc in omega arith);
+}
+
+stage-of-requires : tie.Need-stage-of-requires
+stage-of-requires c κs = let s = numbers-at _ (numbers-fit c) .size in (s .narrow, s .low)
+
+returns-2 : tie.Need-returns-2
+unfolding resumeRule
+returns-2 c = record {
+  says = rw (c .stage-of .ensures) (simp (numbers-fit (c .before), numbers-back _ (numbers-fit (c .before))));
+  job = λ j e. cc (c .stage-of .ensures);
+}
+
+pub resume-spec : {M : Type 1} → statement M
+resume-spec = tie.close (tie.spec checkpoint-fits-requires returns stage-of-requires returns-2)

@@ -1,0 +1,68 @@
+-- What the tests of seven numbers show one after the other, and that the job of seven numbers that fit has those numbers.
+-- Assumes nothing.
+use mathlib.Core.Path.{_≡_, refl}
+use mathlib.Core.Bool.{Bool, true, false, _&&_}
+use mathlib.Core.List.{List}
+use Prim.Native.Nat.{ℕ, _*_, _-_, _≤_}
+use native.Mathlib.Omega.{arith}
+use borrow.Author.Tests.{ltb-true}
+use lib.Dec.{ltb}
+use Rattle.board.specs.Answers.{refuses, refuseUnless, _then_}
+use Rattle.board.specs.Boards.{among, Sized}
+use Rattle.board.specs.Checks.{sizeCheck}
+use Rattle.board.proofs.Tests.{among-yes}
+use Rattle.solver.specs.Jobs.{tableSize, unitsFit, rowsChosen, checkpointFits, stageOf, jobOf, jobSays, checkpointSays}
+use Rattle.solver.specs.declared.Checkpoint.{Checkpoint}
+use Rattle.solver.proofs.Fits.{RowsFit, UnitsFit, runs, ends, fails, units-at, numbers-at}
+
+-- ---- the size
+pub size-fits : {w h : ℕ} → Sized w h → among 10 w && among 60 h ≡ true
+size-fits {w} {h} s = rw (among-yes 10 w (s .some-column) (s .narrow), among-yes 60 h (s .some-row) (s .low))
+
+pub size-misfits : (w h : ℕ) {n : ℕ} {vs : List ℕ} → sizeCheck w h ≡ refuses n vs → among 10 w && among 60 h ≡ false
+unfolding sizeCheck
+size-misfits w h {n} {vs} e = go (among 10 w) (among 60 h) e
+  where
+    go : (s t : Bool) → (refuseUnless s 1 then refuseUnless t 2) ≡ refuses n vs → s && t ≡ false
+    go true true q = absurd (let z : _≡_ {A = ℕ} 0 1 = cc in omega arith)
+    go true false q = refl
+    go false t q = refl
+
+-- ---- the rows
+-- at most h rows are chosen where the units fit
+pub chosen-le : (w h units mark : ℕ) → unitsFit w h units mark ≡ true → rowsChosen w h units mark ≤ h
+unfolding rowsChosen
+chosen-le w h units mark e = go mark (units-at w h units mark e)
+  where
+    go : (mark : ℕ) → UnitsFit w h units mark → rowsChosen w h units mark ≤ h
+    go mark (runs l) = omega arith
+    go mark (ends q) = omega arith
+    go mark (fails q) = omega arith
+
+-- ---- the job of seven numbers
+-- with no row chosen the two rows and the live cells are 0
+record NoRows (above last live : ℕ) : Type 0 where
+  over : above ≡ 0
+  below : last ≡ 0
+  few : live ≡ 0
+
+no-rows : {w k above last live : ℕ} → RowsFit w k above last live → k ≡ 0 → NoRows above last live
+no-rows {w} {k} {above} {last} {live} r e =
+    let l : live ≤ w * 0 = rw e at (r .few) in record { over = r .one (omega arith); below = r .none e; few = omega arith }
+
+-- it has those numbers
+pub numbers-back : (t : Checkpoint) → checkpointFits t ≡ true → jobSays (jobOf t) ≡ checkpointSays t
+unfolding stageOf rowsChosen
+numbers-back t e = go (t .mark) (numbers-at t e .units) refl
+  where
+    filling : t .mark ≡ 0 → (b : Bool) → ltb (t .units) (tableSize (t .width) (t .height)) ≡ b → jobSays (jobOf t) ≡ checkpointSays t
+    filling m true r =
+        let l : t .units ≤ tableSize (t .width) (t .height) = omega (arith, ltb-true (t .units) (tableSize (t .width) (t .height)) r) in
+        let n = no-rows (numbers-at t e .rows) (rw m (omega arith)) in
+        rw (m, r, n .over, n .below, n .few)
+    filling m false r = rw (m, r)
+
+    go : (mark : ℕ) → UnitsFit (t .width) (t .height) (t .units) mark → t .mark ≡ mark → jobSays (jobOf t) ≡ checkpointSays t
+    go mark (runs l) m = filling m (ltb (t .units) (tableSize (t .width) (t .height))) refl
+    go mark (ends q) m = rw m
+    go mark (fails q) m = let n = no-rows (numbers-at t e .rows) (rw m) in rw (m, n .over, n .below, n .few)

@@ -1,0 +1,189 @@
+-- What the best row and the last layer come to: the rule's entry and the rule's choice, with Conway's table lent, q for 4^w and n for 2^w.
+-- Assumes nothing.
+use mathlib.Core.Path.{_≡_, refl, _∙_, sym, ap, fun-ext}
+use mathlib.Core.Bool.{Bool, true, false, cond, _&&_}
+use mathlib.Core.List.{List}
+use mathlib.Core.Option.{Option}
+use Prim.Native.Nat.{ℕ, zero, suc, _+_, _*_, _-_, _/_, _%_, _^_, _<_, _≤_}
+use native.Mathlib.Nat.{mul-le-mul-right, div-lt-iff-lt-mul, mod-lt, div-add-mod'}
+use native.Mathlib.Omega.{arith}
+use lib.Arith.{digits-lt}
+use lib.Dec.{eqb}
+use lib.IntN.{pos, predℤ, sucℤ}
+use lib.ListN.{getD}
+use lib.Pow.{pow-pos}
+use Rattle.board.specs.Search.{allBelow}
+use Rattle.elimination.specs.Candidates.{scan}
+use Rattle.elimination.specs.Kind.{Kind, offerIf, choose, entry, worthOf}
+use Rattle.elimination.specs.Sums.{sumKind}
+use Rattle.elimination.proofs.Kind.{entry-last, entry-more}
+use Rattle.life.specs.Plane.{nine}
+use Rattle.life.specs.Rule.{Conway, conway, entryOf}
+use Rattle.life.specs.Rows.{cellOf, becomes, stepsTo, agree}
+use Rattle.solver.specs.Rows.{live, rowKept}
+use Rattle.solver.specs.ScoreTable.{kindBy, kindOf, placeOf, readsFrom, readsOf, choiceOf}
+use Rattle.solver.specs.Jobs.{tableSize}
+use Rattle.solver.specs.Units.{unitPlace, unitEntry, rowChoice}
+use Rattle.solver.specs.Inner.{Found}
+use Rattle.solver.specs.declared.best.Best.{Best}
+use Rattle.solver.proofs.Columns.{cell-small}
+use Rattle.solver.proofs.Powers.{four-two, four-pos}
+
+-- ---- Conway's table
+-- the pattern around a column is one of 512
+nine-small : (w a b c j : ℕ) → nine (cellOf w a) (cellOf w b) (cellOf w c) (pos j) < 512
+nine-small w a b c j =
+    omega (
+      arith,
+      cell-small w a (predℤ (pos j)),
+      cell-small w a (pos j),
+      cell-small w a (sucℤ (pos j)),
+      cell-small w b (predℤ (pos j)),
+      cell-small w b (pos j),
+      cell-small w b (sucℤ (pos j)),
+      cell-small w c (predℤ (pos j)),
+      cell-small w c (pos j),
+      cell-small w c (sucℤ (pos j)),
+    )
+
+module _ (table : List ℕ) (C : Conway table) where
+  pub agree-same : (w a b c : ℕ) → agree (entryOf table) w a b c ≡ agree conway w a b c
+  unfolding stepsTo becomes
+  agree-same w a b c =
+      ap (λ (f : ℕ → Bool). allBelow f (w + 2)) (fun-ext λ j. ap (λ (x : ℕ). eqb x (cellOf w b (pos j))) (C .entry _ (nine-small w a b c j)))
+
+  -- what is asked, by the agreement of three rows
+  abbrev askedBy : ℕ → (ℕ → ℕ) → List ℕ → (ℕ → ℕ → ℕ → Bool) → Kind ℕ
+  askedBy w givensAt givens agreed =
+      sumKind record {
+        least = false;
+        greaterFirst = false;
+        absent = 65535;
+        limit = 600;
+        worth = λ k c. live w c;
+        codes = 2 ^ w;
+        may = λ k a b c. agreed a b c && rowKept w givens (givensAt k) c;
+        mayEnd = λ a b. agreed a b 0 && agreed b 0 0;
+      }
+
+  pub kind-same : (w : ℕ) (givensAt : ℕ → ℕ) (givens : List ℕ) → kindBy (entryOf table) w givensAt givens ≡ kindBy conway w givensAt givens
+  kind-same w givensAt givens = ap (askedBy w givensAt givens) (fun-ext λ a. fun-ext λ b. fun-ext λ c. agree-same w a b c)
+
+-- ---- a row's givens and its layer
+-- the choice goes by the place of the givens alone
+choose-here : (next : ℕ → ℕ) (w h : ℕ) (givens : List ℕ) (k a b : ℕ) (read : ℕ → ℕ)
+    → choose (kindOf next w h givens) k a b read ≡ choose (kindBy next w (λ i. (h - suc k) * w) givens) 0 a b read
+unfolding choose
+choose-here next w h givens k a b read =
+    ap (λ (f : ℕ → Option ℕ). scan (kindOf next w h givens .comparison) f (2 ^ w))
+    (fun-ext λ c. go (agree next w a b c && rowKept w givens ((h - suc k) * w) c) c)
+  where
+    go : (t : Bool) (c : ℕ) → offerIf (kindOf next w h givens) t k read c ≡ offerIf (kindBy next w (λ i. (h - suc k) * w) givens) t 0 read c
+    go true c = refl
+    go false c = refl
+
+choose-at : (next : ℕ → ℕ) (w h : ℕ) (givens : List ℕ) (k a b : ℕ) (read : ℕ → ℕ) {at : ℕ} → (h - suc k) * w ≡ at
+    → choose (kindOf next w h givens) k a b read ≡ choose (kindBy next w (λ i. at) givens) 0 a b read
+choose-at next w h givens k a b read e = choose-here next w h givens k a b read ∙ ap (λ (x : ℕ). choose (kindBy next w (λ i. x) givens) 0 a b read) e
+
+-- layer r + 1 starts at r × 4^w
+reads-same : (w : ℕ) (table : List ℕ) (i r b first : ℕ) → i ≡ r + 1 → first ≡ r * 4 ^ w + b * 2 ^ w → readsOf w table i b ≡ readsFrom table first
+unfolding placeOf
+reads-same w table i r b first e f =
+    let d : i - 1 ≡ r = omega arith in
+    fun-ext λ c. rw (d, f)
+
+module _ (table512 : List ℕ) (C : Conway table512) (w h : ℕ) (givens table : List ℕ) (r a b first : ℕ) (inside : r < h)
+    (start : first ≡ r * 4 ^ w + b * 2 ^ w) (o : Best)
+    (F : Found w o (choose (kindBy (entryOf table512) w (λ i. r * w) givens) 0 a b (readsFrom table first))) where
+  -- what the search found is the choice with k rows after it
+  found-choice : (k i : ℕ) → h - suc k ≡ r → i ≡ r + 1 → choiceOf o ≡ choose (kindOf conway w h givens) k a b (readsOf w table i b)
+  found-choice k i e f =
+      let x = rw (kind-same table512 C w (λ i. r * w) givens) at (F .is) in
+      x ∙ rw (reads-same w table i r b first f start) (sym (choose-at conway w h givens k a b (readsFrom table first) (ap (λ (n : ℕ). n * w) e)))
+
+  -- choosing a row
+  pub found-row-choice : choiceOf o ≡ rowChoice w h givens table r a b
+  unfolding rowChoice
+  found-row-choice = found-choice (h - suc r) (r + 1) (omega arith) refl
+
+  -- an entry of a layer above the last
+  pub found-entry : (k i : ℕ) → (k ≡ 0 → ⊥) → h - k ≡ r → i ≡ r + 1
+      → worthOf 65535 (choiceOf o) ≡ entry (kindOf conway w h givens) k a b (readsOf w table i b)
+  found-entry zero i z e f = absurd (z refl)
+  found-entry (suc k) i z e f = ap (worthOf 65535) (found-choice k i e f) ∙ sym (entry-more (kindOf conway w h givens) k a b (readsOf w table i b))
+
+-- ---- room
+-- the w cells of a row, and the 2^w entries of a row of a layer
+pub row-room : (w h r : ℕ) → r < h → r * w + w ≤ w * h
+row-room w h r l = omega (arith, mul-le-mul-right w l)
+
+pub layer-room : (w h r b q n : ℕ) → q ≡ 4 ^ w → n ≡ 2 ^ w → r < h → b < 2 ^ w → r * q + b * n + 2 ^ w ≤ tableSize w h
+unfolding tableSize
+layer-room w h r b q n eq en l m =
+    let x : (b + 1) * 2 ^ w ≤ 2 ^ w * 2 ^ w = mul-le-mul-right (2 ^ w) (omega arith) in
+    let y : (r + 1) * 4 ^ w ≤ h * 4 ^ w = mul-le-mul-right (4 ^ w) (omega arith) in
+    rw (eq, en) (omega (arith, four-two w))
+
+-- ---- unit u of filling
+-- its rows a and b
+module _ (w u q n : ℕ) (eq : q ≡ 4 ^ w) (en : n ≡ 2 ^ w) where
+  pub row-a-lt : u % q / n < 2 ^ w
+  row-a-lt =
+      let l : u % 4 ^ w < 2 ^ w * 2 ^ w = rw (← (four-two w)) (mod-lt u (four-pos w)) in
+      rw (eq, en) (div-lt-iff-lt-mul (pow-pos w) .1 l)
+
+  pub row-b-lt : u % q % n < 2 ^ w
+  row-b-lt = rw en (mod-lt (u % q) (pow-pos w))
+
+-- its place and its number
+module _ (w h u q n : ℕ) (eq : q ≡ 4 ^ w) (en : n ≡ 2 ^ w) where
+  module _ (early : u < tableSize w h) where
+    pub after-lt : u / q < h
+    unfolding tableSize
+    after-lt = rw eq (div-lt-iff-lt-mul (four-pos w) .1 early)
+
+    pub place-below : (h - 1 - u / q) * q + u % q < tableSize w h
+    unfolding tableSize
+    place-below =
+        let k : u / 4 ^ w < h = rw eq at after-lt in
+        rw eq (digits-lt (omega arith) (mod-lt u (four-pos w)))
+
+  pub place-is : (h - 1 - u / q) * q + u % q ≡ unitPlace w h u
+  unfolding unitPlace placeOf
+  place-is =
+      let d : h - u / 4 ^ w - 1 ≡ h - 1 - u / 4 ^ w = omega arith in
+      rw (eq, d) (omega (arith, div-add-mod' (u % 4 ^ w) (2 ^ w)))
+
+  module _ (table512 : List ℕ) (C : Conway table512) (givens table : List ℕ) where
+    -- layer h
+    abbrev last : ℕ → ℕ → Bool
+    last a b = agree (entryOf table512) w a b 0
+
+    entry-at-last : u / q ≡ 0 → (s t : Bool) → last (u % q / n) (u % q % n) ≡ s → last (u % q % n) 0 ≡ t
+        → unitEntry w h givens table u ≡ cond (s && t) 0 65535
+    unfolding unitEntry
+    entry-at-last k s t e f =
+        let p : agree conway w (u % 4 ^ w / 2 ^ w) (u % 4 ^ w % 2 ^ w) 0 ≡ s = rw (eq, en) at (sym (agree-same table512 C w (u % q / n) (u % q % n) 0) ∙ e) in
+        let r : agree conway w (u % 4 ^ w % 2 ^ w) 0 0 ≡ t = rw (eq, en) at (sym (agree-same table512 C w (u % q % n) 0 0) ∙ f) in
+        rw (rw eq at k) (entry-last (kindOf conway w h givens) _ _ _ ∙ rw (p, r))
+
+    pub entry-apart : u / q ≡ 0 → last (u % q / n) (u % q % n) ≡ false → 65535 ≡ unitEntry w h givens table u
+    entry-apart k e = sym (entry-at-last k false (last (u % q % n) 0) e refl)
+
+    pub entry-open : u / q ≡ 0 → last (u % q / n) (u % q % n) ≡ true → last (u % q % n) 0 ≡ false → 65535 ≡ unitEntry w h givens table u
+    entry-open k e f = sym (entry-at-last k true false e f)
+
+    pub entry-ends : u / q ≡ 0 → last (u % q / n) (u % q % n) ≡ true → last (u % q % n) 0 ≡ true → 0 ≡ unitEntry w h givens table u
+    entry-ends k e f = sym (entry-at-last k true true e f)
+
+    -- a layer above
+    pub entry-best : (early : u < tableSize w h) → (u / q ≡ 0 → ⊥) → (o : Best)
+        → Found w o (choose (kindBy (entryOf table512) w (λ i. (h - u / q) * w) givens) 0 (u % q / n) (u % q % n) (readsFrom table ((h - u / q) * q + u % q % n * n)))
+        → worthOf 65535 (choiceOf o) ≡ unitEntry w h givens table u
+    unfolding unitEntry
+    entry-best early z o F =
+        let l = after-lt early in
+        rw (eq, en) at
+        (found-entry table512 C w h givens table (h - u / q) (u % q / n) (u % q % n) ((h - u / q) * q + u % q % n * n) (omega arith) (rw (eq, en)) o F (u / q) (h - u / q + 1) z refl
+        refl)

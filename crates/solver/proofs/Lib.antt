@@ -1,0 +1,22 @@
+-- The laws of this crate that belong to no one function, and its theorems. Each file builds on those above it.
+pub mod Powers
+pub mod Fits
+pub mod Checkpoints
+pub mod Writing
+pub mod RowLaws
+pub mod Columns
+pub mod Skipping
+pub mod Scanning
+pub mod Entries
+pub mod Endings
+pub mod Optimum
+pub mod Machine
+pub mod UnitLaws
+pub mod CheckLaws
+pub mod Lending
+pub mod Steps
+pub mod Memory
+pub mod Lists
+pub mod ListsServed
+pub mod Theorems
+pub mod Third

@@ -1,0 +1,240 @@
+-- A job with its lent memory is a machine of row elimination: a unit of a job that fits is a unit of the machine, and the next job fits.
+-- Assumes nothing.
+use mathlib.Core.Path.{_≡_, refl, sym, _∙_, ap, ap₂, subst, fun-ext}
+use mathlib.Core.Bool.{Bool, true, false, cond}
+use mathlib.Core.List.{List}
+use mathlib.Core.Option.{Option}
+use Prim.Native.Nat.{ℕ, zero, suc, _+_, _*_, _-_, _/_, _%_, _^_, _≤_, _<_}
+use native.Mathlib.Nat.{add-comm, div-add-mod'}
+use native.Mathlib.Numerals.{add-one}
+use native.Mathlib.Omega.{arith}
+use borrow.Author.Tests.{ltb-true, ltb-false, ne-eqb}
+use lib.Dec.{ltb, eqb}
+use lib.Pow.{pow-pos}
+use lib.ListN.{getD, set}
+use Rattle.board.specs.Boards.{Sized}
+use Rattle.elimination.specs.Candidates.{Choice, nothing, chosen, Comparison, Found, noneFound, bestFound}
+use Rattle.elimination.specs.Kind.{choose, entry, offer}
+use Rattle.elimination.specs.Table.{reads, fillEntry}
+use Rattle.elimination.specs.Filling.{rightAtUnit, entryAtUnit}
+use Rattle.elimination.specs.Filling as Filling
+use Rattle.elimination.specs.Task.{row}
+use Rattle.elimination.specs.Machine.{Machine}
+use Rattle.elimination.specs.Job.{Mark, running, finished, infeasible, ended, Setup, takeRow, unit}
+use Rattle.elimination.specs.Job as Elimination
+use Rattle.elimination.specs.FillThenChoose.{plan, fillThenChoose}
+use Rattle.elimination.proofs.Candidates.{scan-finds-best}
+use Rattle.elimination.proofs.Kind.{choose-scan}
+use Rattle.elimination.proofs.Filling.{right-at-unit-entry}
+use Rattle.elimination.proofs.Job.{unit-row}
+use Rattle.elimination.proofs.FillThenChoose.{plan-fill, plan-row}
+use Rattle.solver.specs.Rows.{live, written}
+use Rattle.solver.specs.ScoreTable.{placeOf, readsOf}
+use Rattle.solver.specs.Jobs.{tableSize, aboveOf, lastOf, liveOf, jobFits}
+use Rattle.solver.specs.Units.{State, Step, next, spoiled, unitPlace, unitEntry, filledTo, rowChoice, chosenTo, chooseStep, unitOf}
+use Rattle.solver.specs.Demand.{rightUnit}
+use Rattle.solver.specs.declared.Stage.{Stage}
+use Rattle.solver.proofs.Powers.{four-two}
+use Rattle.solver.proofs.Fits.{RowsFit, Choosing, Fits, jobAt, fits-of, fits-at}
+use Rattle.solver.proofs.RowLaws.{live-le}
+use Rattle.solver.proofs.Endings.{kind, kind-laws}
+use Rattle.solver.proofs.Optimum.{putRow}
+
+-- ---- places, numbers and choices are row elimination's
+abbrev layer : ℕ → ℕ
+layer w = 2 ^ w * 2 ^ w
+
+pub table-four : (w h : ℕ) → tableSize w h ≡ h * (2 ^ w * 2 ^ w)
+unfolding tableSize
+table-four w h = ap (λ (q : ℕ). h * q) (four-two w)
+
+pub place-same : (w h u : ℕ) → unitPlace w h u ≡ Filling.place h (2 ^ w * 2 ^ w) u
+unfolding unitPlace placeOf Filling.place
+place-same w h u =
+    let j = u % layer w in
+    let e : h - u / layer w - 1 ≡ h - 1 - u / layer w = omega arith in
+    let d : j / 2 ^ w * 2 ^ w + j % 2 ^ w ≡ j = div-add-mod' j (2 ^ w) in
+    rw (four-two w, e) (omega arith)
+
+module _ (w h : ℕ) (g : List ℕ) where
+  pub right-same : (u : ℕ) → rightUnit w h g u ≡ rightAtUnit (kind w h g) u
+  unfolding rightUnit
+  right-same u = rw (four-two w) (sym (right-at-unit-entry (kind w h g) u))
+
+  -- entries (r + 1, b, c)
+  pub reads-same : (t : List ℕ) (r b : ℕ) → readsOf w t (r + 1) b ≡ reads (kind w h g) t (r * (2 ^ w * 2 ^ w)) b
+  unfolding reads placeOf
+  reads-same t r b = fun-ext (λ c. let e : r + 1 - 1 ≡ r = omega arith in rw (four-two w, e) (ap (λ (p : ℕ). getD t p 0) (omega arith)))
+
+  entry-same : (t : List ℕ) (u : ℕ) → unitEntry w h g t u ≡ entryAtUnit (kind w h g) h u t
+  unfolding unitEntry
+  entry-same t u =
+      rw (four-two w)
+      (ap (entry (kind w h g) (u / layer w) (u % layer w / 2 ^ w) (u % layer w % 2 ^ w)) (reads-same t (h - u / layer w) (u % layer w % 2 ^ w)))
+
+  choice-same : (t : List ℕ) (r a b : ℕ) → rowChoice w h g t r a b ≡ choose (kind w h g) (h - suc r) a b (reads (kind w h g) t (r * (2 ^ w * 2 ^ w)) b)
+  unfolding rowChoice
+  choice-same t r a b = ap (choose (kind w h g) (h - suc r) a b) (reads-same t r b)
+
+-- a row that is chosen is one
+abbrev pub RowBelow : ℕ → Choice ℕ → Type 0
+RowBelow m nothing = Unit {0}
+RowBelow m (chosen c n) = c < m
+
+found-lt : {K : Comparison ℕ} {offered : ℕ → Option ℕ} {m : ℕ} {o : Choice ℕ} → Found K offered m o → RowBelow m o
+found-lt (noneFound f) = tt
+found-lt (bestFound r y B) = B .inside
+
+pub choice-lt : {w h : ℕ} → Sized w h → (g t : List ℕ) (r a b : ℕ) → RowBelow (2 ^ w) (rowChoice w h g t r a b)
+unfolding rowChoice
+choice-lt {w} {h} z g t r a b =
+    let L = kind-laws w h g z in
+    let read = readsOf w t (r + 1) b in
+    subst (RowBelow (2 ^ w)) (sym (choose-scan (kind w h g) (h - suc r) a b read))
+    (found-lt (scan-finds-best (kind w h g .comparison) (L .ordered) (L .merge-tied) (offer (kind w h g) (h - suc r) a b read) (2 ^ w)))
+
+-- ---- the machine
+abbrev pub markIn : Stage → Mark
+markIn Stage.Filling = running
+markIn (Stage.Choosing above last soFar) = running
+markIn (Stage.Finished above last score) = finished
+markIn Stage.Infeasible = infeasible
+
+abbrev pub view : State → Elimination.State ℕ (List ℕ)
+view s = record {
+  units = s .job .units;
+  above = aboveOf (s .job .stage);
+  last = lastOf (s .job .stage);
+  soFar = liveOf (s .job .stage);
+  mark = markIn (s .job .stage);
+  table = s .table;
+  board = s .board;
+}
+
+abbrev pub at : ℕ → ℕ → ℕ → Stage → List ℕ → List ℕ → State
+at w h u s t β = record { job = jobAt w h u s; table = t; board = β }
+
+module _ (w h : ℕ) (g : List ℕ) where
+  abbrev pub setup : Setup ℕ (List ℕ)
+  setup = fillThenChoose (kind w h g) h (putRow w)
+
+  abbrev pub machine : Machine (Elimination.State ℕ (List ℕ))
+  machine = Elimination.machine setup
+
+  -- a state of this grid whose job fits
+  pub record Here (s : State) : Type 0 where
+    pub wide : s .job .width ≡ w
+    pub tall : s .job .height ≡ h
+    pub stage : Fits w h (s .job .units) (s .job .stage)
+
+  -- a unit that is done, and one that can't be
+  abbrev pub Steps : Step → State → Type 0
+  Steps (next s′) s = Here s′ × (view s′ ≡ machine .unit (view s))
+  Steps spoiled s = (machine .unit (view s) ≡ view s) × (ended (view s) ≡ false)
+
+module _ {w h : ℕ} (z : Sized w h) (g : List ℕ) where
+  -- ---- an entry
+  fill-fits : (u : ℕ) → u < tableSize w h → (b : Bool) → ltb (u + 1) (tableSize w h) ≡ b → Fits w h (u + 1) (cond b Stage.Filling (Stage.Choosing 0 0 0))
+  fill-fits u l true e = ltb-true (u + 1) (tableSize w h) e
+  fill-fits u l false e =
+      let le : tableSize w h ≤ u + 1 = ltb-false (u + 1) (tableSize w h) e in record {
+        over = pow-pos w;
+        below = pow-pos w;
+        from = le;
+        until = omega (arith, z .some-row);
+        rows = record { few = omega arith; none = λ q. refl; one = λ q. refl };
+      }
+
+  fill-view : (u : ℕ) (t β : List ℕ) (b : Bool) → view (at w h u (cond b Stage.Filling (Stage.Choosing 0 0 0)) t β) ≡ view (at w h u Stage.Filling t β)
+  fill-view u t β true = refl
+  fill-view u t β false = refl
+
+  fill-law : (u : ℕ) (t β : List ℕ) → u < tableSize w h → Steps w h g (unitOf g (at w h u Stage.Filling t β)) (at w h u Stage.Filling t β)
+  unfolding unitOf unit fillEntry Filling.place
+  fill-law u t β l =
+      let lq : u < h * (2 ^ w * 2 ^ w) = rw (table-four w h) at l in (
+        record { wide = refl; tall = refl; stage = fill-fits u l (ltb (u + 1) (tableSize w h)) refl },
+        fill-view (u + 1) (set t (unitPlace w h u) (unitEntry w h g t u)) β (ltb (u + 1) (tableSize w h))
+            ∙ rw (plan-fill h (2 ^ w * 2 ^ w) u lq, add-one u, entry-same w h g t u, place-same w h u),
+      )
+
+  -- ---- a row
+  module _ (u above last soFar : ℕ) (F : Choosing w h u above last soFar) where
+    abbrev r : ℕ
+    r = u - tableSize w h
+
+    row-fits : (c : ℕ) → c < 2 ^ w → (b : Bool) → ltb (r + 1) h ≡ b
+        → Fits w h (u + 1) (cond b (Stage.Choosing last c (soFar + live w c)) (Stage.Finished last c (soFar + live w c)))
+    row-fits c l b e = go b e
+      where
+        rows : RowsFit w (suc r) last c (soFar + live w c)
+        rows = record { few = omega (arith, F .rows .few, live-le w c); none = λ q. absurd (omega arith); one = λ q. F .rows .none (omega arith) }
+
+        go : (b : Bool) → ltb (r + 1) h ≡ b → Fits w h (u + 1) (cond b (Stage.Choosing last c (soFar + live w c)) (Stage.Finished last c (soFar + live w c)))
+        go true e =
+            let lt = ltb-true (r + 1) h e in
+            let k : u + 1 - tableSize w h ≡ suc (u - tableSize w h) = omega (arith, F .from) in
+            record { over = F .below; below = l; from = omega (arith, F .from); until = omega (arith, F .from); rows = rw k rows }
+        go false e =
+            let le = ltb-false (r + 1) h e in
+            let k : suc (u - tableSize w h) ≡ h = omega (arith, F .from, F .until) in
+            record { over = F .below; below = l; whole = omega (arith, F .from); rows = rw k at rows }
+
+    row-view : (last c n u : ℕ) (t β : List ℕ) (b : Bool)
+        → view (at w h u (cond b (Stage.Choosing last c n) (Stage.Finished last c n)) t β)
+        ≡ record { units = u; above = last; last = c; soFar = n; mark = cond b running finished; table = t; board = β }
+    row-view last c n u t β true = refl
+    row-view last c n u t β false = refl
+
+    none-view : (t β : List ℕ) → above ≡ 0 → last ≡ 0 → soFar ≡ 0
+        → _≡_ {A = Elimination.State ℕ (List ℕ)} (record { units = suc u; above = above; last = last; soFar = soFar; mark = infeasible; table = t; board = β })
+        (view (at w h (suc u) Stage.Infeasible t β))
+    none-view t β p q r = rw (p, q, r)
+
+    module _ (t β : List ℕ) where
+      abbrev here : State
+      here = at w h u (Stage.Choosing above last soFar) t β
+
+      -- the machine's unit, where a row is to be chosen
+      machine-row : machine w h g .unit (view here) ≡ takeRow (setup w h g) r (view here) (rowChoice w h g t r above last)
+      machine-row =
+          let e : u ≡ h * (2 ^ w * 2 ^ w) + r = omega (arith, F .from, table-four w h) in
+          let p : plan h (2 ^ w * 2 ^ w) u ≡ row r (r * (2 ^ w * 2 ^ w)) = ap (plan h (2 ^ w * 2 ^ w)) e ∙ plan-row h (2 ^ w * 2 ^ w) r in
+          unit-row (setup w h g) (view here) r (r * (2 ^ w * 2 ^ w)) refl p ∙ ap (takeRow (setup w h g) r (view here)) (sym (choice-same w h g t r above last))
+
+      -- by what is chosen
+      choose-law : (k : ℕ) → r ≡ k → (o : Choice ℕ) → RowBelow (2 ^ w) o → machine w h g .unit (view here) ≡ takeRow (setup w h g) k (view here) o
+          → Steps w h g (chooseStep w h u k last soFar t β o) here
+      choose-law k e (chosen c n) l m = (
+        record { wide = refl; tall = refl; stage = subst (λ (x : ℕ). Fits w h (u + 1) (chosenTo h (x + 1) last c (soFar + live w c))) e (row-fits c l (ltb (r + 1) h) refl) },
+        row-view last c (soFar + live w c) (u + 1) t (written w c β (k * w) w) (ltb (k + 1) h) ∙ rw (add-one u, add-one k, add-comm soFar (live w c)) (sym m),
+      )
+      choose-law zero e nothing l m =
+          let none : last ≡ 0 = F .rows .none e in
+          let one : above ≡ 0 = F .rows .one (omega arith) in
+          let few : soFar ≡ 0 = omega (arith, rw e at (F .rows .few)) in
+          (record { wide = refl; tall = refl; stage = omega (arith, F .from) }, rw (add-one u) (sym (m ∙ none-view t β one none few)))
+      choose-law (suc k) e nothing l m = rw (ne-eqb (suc k) 0 (omega arith)) (m, refl)
+
+      row-law : Steps w h g (unitOf g here) here
+      unfolding unitOf
+      row-law = choose-law r refl (rowChoice w h g t r above last) (choice-lt z g t r above last) machine-row
+
+  -- ---- any unit of a job that fits
+  at-law : (u : ℕ) (s : Stage) (t β : List ℕ) → Fits w h u s → Steps w h g (unitOf g (at w h u s t β)) (at w h u s t β)
+  unfolding unitOf unit
+  at-law u Stage.Filling t β f = fill-law u t β f
+  at-law u (Stage.Choosing above last soFar) t β f = row-law u above last soFar f t β
+  at-law u (Stage.Finished above last score) t β f = (record { wide = refl; tall = refl; stage = f }, refl)
+  at-law u Stage.Infeasible t β f = (record { wide = refl; tall = refl; stage = f }, refl)
+
+  pub unit-law : (s : State) → Here w h g s → Steps w h g (unitOf g s) s
+  unit-law s H =
+      let e : at w h (s .job .units) (s .job .stage) (s .table) (s .board) ≡ s =
+      ap₂ (λ (x y : ℕ). at x y (s .job .units) (s .job .stage) (s .table) (s .board)) (sym (H .wide)) (sym (H .tall)) in
+      subst (λ (x : State). Steps w h g (unitOf g x) x) e (at-law (s .job .units) (s .job .stage) (s .table) (s .board) (H .stage))
+
+  pub here-fits : (s : State) → Here w h g s → jobFits (s .job) ≡ true
+  here-fits s H =
+      let e : jobAt w h (s .job .units) (s .job .stage) ≡ s .job = ap₂ (λ (x y : ℕ). jobAt x y (s .job .units) (s .job .stage)) (sym (H .wide)) (sym (H .tall)) in
+      rw e at (fits-of w h (s .job .units) (s .job .stage) z (H .stage))

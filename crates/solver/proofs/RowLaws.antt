@@ -1,0 +1,119 @@
+-- Rows and cells: a row's digits are its cells, its live cells are their sum, and a board is its rows.
+-- Assumes nothing.
+use mathlib.Core.Path.{_≡_, refl, sym, _∙_, ap, ap₂}
+use mathlib.Core.Bool.{Bool, true, false, cond}
+use mathlib.Core.List.{List}
+use Prim.Native.Nat.{ℕ, zero, suc, _+_, _*_, _-_, _/_, _%_, _^_, _≤_, _<_}
+use native.Mathlib.Nat.{pow-suc, mul-comm, div-add-mod', mod-lt, div-lt-iff-lt-mul}
+use native.Mathlib.Numerals.{add-one}
+use native.Mathlib.Omega.{arith}
+use lib.IntN.{ℤ, pos}
+use lib.ListN.{getD}
+use lib.Pow.{pow-pos}
+use lib.Seq.{ext-getD}
+use Rattle.board.specs.Boards.{among, Board}
+use Rattle.board.specs.Sums.{total}
+use Rattle.board.proofs.Sums.{total-none, total-same, total-le, total-add}
+use Rattle.board.proofs.Tests.{among-yes, among-past}
+use Rattle.life.specs.Plane.{onPlane}
+use Rattle.life.specs.Rows.{rowNumber, rowOf, digitIn, cellOf}
+use Rattle.life.proofs.OnPlane.{on-board, state-small}
+use Rattle.life.proofs.Rows.{row-cells}
+use Rattle.solver.specs.Grid.{population}
+use Rattle.solver.specs.Rows.{live}
+
+-- ---- a row's number
+-- equal cells read as equal numbers
+pub same-number : (cells others : List ℕ) (at n : ℕ) → ((k : ℕ) → k < n → getD cells (at + k) 0 ≡ getD others (at + k) 0)
+    → rowNumber cells at n ≡ rowNumber others at n
+unfolding rowNumber
+same-number cells others at zero e = refl
+same-number cells others at (suc n) e =
+    ap₂ (λ (x y : ℕ). 2 * x + y) (same-number cells others at n (λ k l. e k (omega arith))) (e n (omega arith))
+
+number-lt : (cells : List ℕ) → ((k : ℕ) → getD cells k 0 ≤ 1) → (at n : ℕ) → rowNumber cells at n < 2 ^ n
+unfolding rowNumber
+number-lt cells small at zero = omega arith
+number-lt cells small at (suc n) = omega (arith, number-lt cells small at n, small (at + n), pow-suc 2 n)
+
+-- rows 1 to h are the board's, and those outside are dead
+module _ (w h : ℕ) (cells : List ℕ) where
+  pub row-inside : (r : ℕ) → r < h → rowOf w h cells (suc r) ≡ rowNumber cells (r * w) w
+  unfolding rowOf
+  row-inside r l = let e : suc r - 1 ≡ r = omega arith in rw (among-yes h (suc r) (omega arith) l, e)
+
+  pub row-none : rowOf w h cells 0 ≡ 0
+  unfolding rowOf
+  row-none = refl
+
+  pub row-past : (r : ℕ) → h < r → rowOf w h cells r ≡ 0
+  unfolding rowOf
+  row-past r l = rw (among-past h r l)
+
+module _ {w h : ℕ} {board : List ℕ} (b : Board w h board) where
+  pub row-lt : (r : ℕ) → rowOf w h board r < 2 ^ w
+  unfolding rowOf
+  row-lt r = go (among h r)
+    where
+      go : (t : Bool) → cond t (rowNumber board ((r - 1) * w) w) 0 < 2 ^ w
+      go true = number-lt board (state-small b) ((r - 1) * w) w
+      go false = pow-pos w
+
+  -- a digit is the cell
+  pub row-digit : (r k : ℕ) → r < h → k < w → digitIn w (rowOf w h board (suc r)) (k + 1) ≡ getD board (r * w + k) 0
+  unfolding cellOf
+  row-digit r k p q =
+      let e : cellOf w (rowOf w h board (suc r)) (pos (suc k)) ≡ onPlane w h board (pos (suc r)) (pos (suc k)) =
+      ap (λ (f : ℤ → ℕ). f (pos (suc k))) (row-cells b (suc r)) in
+      rw (add-one k) (rw (among-yes w (suc k) (omega arith) q) at e ∙ on-board w h board r k p q)
+
+  -- ---- live cells
+  pub live-row : (r : ℕ) → r < h → live w (rowOf w h board (suc r)) ≡ total (λ k. getD board (r * w + k) 0) w
+  unfolding live
+  live-row r l = total-same (λ k. digitIn w (rowOf w h board (suc r)) (k + 1)) (λ k. getD board (r * w + k) 0) w (λ k q. row-digit r k l q)
+
+  -- one row more
+  pub population-more : (r : ℕ) → r < h → population w (suc r) board ≡ population w r board + live w (rowOf w h board (suc r))
+  unfolding population
+  population-more r l =
+      let e : w * suc r ≡ r * w + w = omega arith in
+      let f : w * r ≡ r * w = mul-comm w r in
+      rw (e, f, live-row r l) (total-add (λ p. getD board p 0) (r * w) w)
+
+pub population-none : (w : ℕ) (board : List ℕ) → population w 0 board ≡ 0
+unfolding population
+population-none w board = let e : w * 0 ≡ 0 = omega arith in rw e (total-none (λ p. getD board p 0))
+
+pub live-le : (w c : ℕ) → live w c ≤ w
+unfolding live
+live-le w c = omega (arith, total-le (λ k. digitIn w c (k + 1)) 1 (λ k. omega arith) w)
+
+-- ---- a board is its rows
+-- a place of a board is a column of one of its rows, both counted from 0
+pub record Place (w h p : ℕ) : Type 0 where
+  pub row : ℕ
+  pub column : ℕ
+  pub inside : row < h
+  pub narrow : column < w
+  pub is : p ≡ row * w + column
+
+pub place : (w h p : ℕ) → 0 < w → p < w * h → Place w h p
+place w h p wide l = record {
+  row = p / w;
+  column = p % w;
+  inside = div-lt-iff-lt-mul wide .1 (rw (mul-comm w h) at l);
+  narrow = mod-lt p wide;
+  is = sym (div-add-mod' p w);
+}
+
+pub same-rows : {w h : ℕ} {board other : List ℕ} → Board w h board → Board w h other
+    → ((r : ℕ) → r < h → rowOf w h board (suc r) ≡ rowOf w h other (suc r)) → board ≡ other
+same-rows {w} {h} {board} {other} b o e =
+    ext-getD 0 board other (b .bytes .long ∙ sym (o .bytes .long)) (λ p l. at p (place w h p (b .size .some-column) (rw (b .bytes .long) at l)))
+  where
+    at : (p : ℕ) → Place w h p → getD board p 0 ≡ getD other p 0
+    at p q =
+        rw (q .is)
+        (sym (row-digit b (q .row) (q .column) (q .inside) (q .narrow))
+        ∙ ap (λ (x : ℕ). digitIn w x (q .column + 1)) (e (q .row) (q .inside))
+        ∙ row-digit o (q .row) (q .column) (q .inside) (q .narrow))

@@ -1,0 +1,74 @@
+-- The theorems of `specs/Theorems`, proved; the third demand is in `Third`, the round trip in `Fits`.
+-- Assumes nothing.
+use mathlib.Core.Path.{_≡_, refl, sym, _∙_, ap}
+use mathlib.Core.Bool.{false}
+use mathlib.Core.List.{List, [], _∷_}
+use Prim.Native.Nat.{ℕ, zero, suc, _+_, _-_, _^_, _≤_, _<_}
+use native.Mathlib.Omega.{arith}
+use borrow.Author.Tests.{leb-true, ltb-true}
+use Rattle.board.specs.Boards.{Sized}
+use Rattle.elimination.specs.Order.{isWorse, isTied}
+use Rattle.elimination.specs.Candidates.{NoBetterRows}
+use Rattle.elimination.specs.Kind.{entry, choose, rightEntry, rightRows, worthOf}
+use Rattle.elimination.specs.Endings.{total, Solved, noEnding, anEnding}
+use Rattle.elimination.proofs.Kind.{entry-more, right-entry-last, right-entry-more, choose-ext}
+use Rattle.elimination.proofs.Sums.{tied-equal}
+use Rattle.elimination.proofs.Endings.{total-none, total-more, elimination-solves, ending-counts}
+use Rattle.solver.specs.Rows.{live}
+use Rattle.solver.specs.ScoreTable.{readsOf}
+use Rattle.solver.specs.Theorems as Theorems
+use Rattle.solver.specs.Theorems.{allRows, GridEnding, EndingsAreSolutions, BestOrNone, best, none, ChoiceIsOptimal, liveInRows, Greatest, greatest, RightLayer, EntryRight, EntriesRight}
+use Rattle.solver.proofs.Endings.{kind, kind-laws, solution-ends, ends-solution}
+use Rattle.solver.proofs.Optimum.{boardOf, is-rows, is-score, optimal}
+
+pub endings-are-solutions : EndingsAreSolutions
+endings-are-solutions w h g board b = (ends-solution b g, solution-ends b g)
+
+pub choice-is-optimal : ChoiceIsOptimal
+choice-is-optimal w h g z = go (elimination-solves (kind w h g) h (kind-laws w h g z) h 0 0 (omega arith))
+  where
+    go : Solved (kind w h g) h 0 0 (rightEntry (kind w h g) h 0 0) (rightRows (kind w h g) h 0 0) → BestOrNone w h g
+    go (noEnding n p q) = none (λ b S. n (allRows w h b) (solution-ends (S .grid) g S)) p
+    go (anEnding T) =
+        let x = rightEntry (kind w h g) h 0 0 in
+        let cs = rightRows (kind w h g) h 0 0 in
+        best (boardOf w h cs) (optimal z g x cs T) (is-rows z g x cs T) (is-score z g x cs T)
+
+-- ---- entries
+live-total : (w h : ℕ) (g cs : List ℕ) → liveInRows w cs ≡ total (kind w h g) cs
+unfolding liveInRows
+live-total w h g [] = sym (total-none (kind w h g))
+live-total w h g (c ∷ cs) = ap (λ (x : ℕ). live w c + x) (live-total w h g cs) ∙ sym (total-more (kind w h g) c cs)
+
+module _ {w h : ℕ} (z : Sized w h) (g : List ℕ) where
+  -- an entry is the greatest number of live cells
+  right-greatest : (k a b : ℕ) → k ≤ h → Greatest w h g k a b (rightEntry (kind w h g) k a b)
+  right-greatest k a b l = go (elimination-solves (kind w h g) h (kind-laws w h g z) k a b l)
+    where
+      go : Solved (kind w h g) k a b (rightEntry (kind w h g) k a b) (rightRows (kind w h g) k a b) → Greatest w h g k a b (rightEntry (kind w h g) k a b)
+      go (noEnding n p q) = Theorems.noEnding n p
+      go (anEnding T) =
+          let cs = rightRows (kind w h g) k a b in
+          greatest cs (T .lawful) (live-total w h g cs ∙ tied-equal false (T .worth))
+          (leb-true (rightEntry (kind w h g) k a b) 600 (ending-counts (kind w h g) (kind-laws w h g z) k a b l cs (T .lawful))) (λ ds D. most ds (T .unbeaten ds D))
+        where
+          most : (ds : List ℕ) → NoBetterRows (kind w h g .comparison) (total (kind w h g) ds) ds (rightEntry (kind w h g) k a b) (rightRows (kind w h g) k a b)
+              → liveInRows w ds ≤ rightEntry (kind w h g) k a b
+          most ds (isWorse p) = omega (arith, live-total w h g ds, ltb-true (total (kind w h g) ds) (rightEntry (kind w h g) k a b) p)
+          most ds (isTied e f) = omega (arith, live-total w h g ds, tied-equal false e)
+
+  -- over right entries the rule gives a right entry
+  rule-right : (i a b : ℕ) → b < 2 ^ w → (t : List ℕ) → (i < h → RightLayer w h g t (i + 1)) → (k : ℕ) → h - i ≡ k
+      → entry (kind w h g) k a b (readsOf w t (i + 1) b) ≡ rightEntry (kind w h g) k a b
+  rule-right i a b l t right zero e = sym (right-entry-last (kind w h g) a b (readsOf w t (i + 1) b))
+  rule-right i a b l t right (suc k) e =
+      let d : h - (i + 1) ≡ k = omega arith in
+      entry-more (kind w h g) k a b (readsOf w t (i + 1) b)
+      ∙ ap (worthOf 65535) (choose-ext (kind w h g) k a b (readsOf w t (i + 1) b) (rightEntry (kind w h g) k b) (λ c m. rw d at (right (omega arith) b c l m)))
+      ∙ sym (right-entry-more (kind w h g) k a b ∙ entry-more (kind w h g) k a b (rightEntry (kind w h g) k b))
+
+pub entries-right : EntriesRight
+entries-right w h g z i a b l q = record {
+  rule = λ t right. rule-right z g i a b q t right (h - i) refl;
+  means = right-greatest z g (h - i) a b (omega arith);
+}

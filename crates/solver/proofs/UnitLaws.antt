@@ -1,0 +1,73 @@
+-- A unit of a job that fits leaves a job that fits, of the same width and height, and memory of the same lengths: what a working call's checks
+-- have shown holds before each of its units.
+-- Assumes nothing.
+use mathlib.Core.Path.{_≡_, refl, sym, _∙_, subst}
+use mathlib.Core.Bool.{Bool, true, false, cond}
+use mathlib.Core.List.{List}
+use Prim.Native.Nat.{ℕ, _+_, _*_, _-_, _≤_}
+use lib.Dec.{eqb}
+use lib.ListN.{length, length-set}
+use Rattle.elimination.specs.Candidates.{Choice, nothing, chosen}
+use Rattle.solver.specs.Jobs.{tableSize, jobFits}
+use Rattle.solver.specs.Units.{State, Step, next, spoiled, unitPlace, unitEntry, rowChoice, chooseStep, stageStep, unitOf}
+use Rattle.solver.specs.Inner.{Lent}
+use Rattle.solver.specs.declared.Stage.{Stage}
+use Rattle.solver.specs.declared.Job.{Job}
+use Rattle.solver.proofs.Fits.{jobAt, fits-of, fits-at}
+use Rattle.solver.proofs.Writing.{written-length}
+use Rattle.solver.proofs.Machine.{Here, Steps, unit-law, here-fits}
+
+-- ---- the job
+-- a next job that fits, of the same grid
+pub record Fit (j j′ : Job) : Type 0 where
+  pub taken : jobFits j′ ≡ true
+  pub width : j′ .width ≡ j .width
+  pub height : j′ .height ≡ j .height
+
+pub unit-fits : (g : List ℕ) (s s′ : State) → jobFits (s .job) ≡ true → unitOf g s ≡ next s′ → Fit (s .job) (s′ .job)
+unit-fits g s s′ f e =
+    let T = fits-at (s .job) f in
+    let w = s .job .width in
+    let h = s .job .height in
+    let H = subst (λ (o : Step). Steps w h g o s) e (unit-law (T .size) g s (record { wide = refl; tall = refl; stage = T .stage })) .0 in
+    record { taken = here-fits (T .size) g s′ H; width = H .wide; height = H .tall }
+
+-- ---- the memory
+record Lengths (t β t′ β′ : List ℕ) : Type 0 where
+  table : length t′ ≡ length t
+  board : length β′ ≡ length β
+
+abbrev StepLengths : List ℕ → List ℕ → Step → Type 0
+StepLengths t β (next s′) = Lengths t β (s′ .table) (s′ .board)
+StepLengths t β spoiled = Unit {0}
+
+choose-lengths : (w h u r last soFar : ℕ) (t β : List ℕ) (o : Choice ℕ) → StepLengths t β (chooseStep w h u r last soFar t β o)
+choose-lengths w h u r last soFar t β (chosen c n) = record { table = refl; board = written-length w c β (r * w) w }
+choose-lengths w h u r last soFar t β nothing = go (eqb r 0)
+  where
+    go : (b : Bool) → StepLengths t β (cond b (next record { job = jobAt w h (u + 1) Stage.Infeasible; table = t; board = β }) spoiled)
+    go true = record { table = refl; board = refl }
+    go false = tt
+
+stage-lengths : (g : List ℕ) (w h u : ℕ) (s : Stage) (t β : List ℕ) → StepLengths t β (stageStep g w h u s t β)
+stage-lengths g w h u Stage.Filling t β = record { table = length-set t (unitPlace w h u) (unitEntry w h g t u); board = refl }
+stage-lengths g w h u (Stage.Choosing above last soFar) t β =
+    choose-lengths w h u (u - tableSize w h) last soFar t β (rowChoice w h g t (u - tableSize w h) above last)
+stage-lengths g w h u (Stage.Finished above last score) t β = record { table = refl; board = refl }
+stage-lengths g w h u Stage.Infeasible t β = record { table = refl; board = refl }
+
+unit-lengths : (g : List ℕ) (s s′ : State) → unitOf g s ≡ next s′ → Lengths (s .table) (s .board) (s′ .table) (s′ .board)
+unfolding unitOf
+unit-lengths g s s′ e =
+    subst (StepLengths (s .table) (s .board)) e (stage-lengths g (s .job .width) (s .job .height) (s .job .units) (s .job .stage) (s .table) (s .board))
+
+-- ---- what the checks have shown holds again
+pub unit-lent : (g : List ℕ) (s s′ : State) → Lent (s .job) g (s .table) (s .board) → unitOf g s ≡ next s′ → Lent (s′ .job) g (s′ .table) (s′ .board)
+unit-lent g s s′ L e =
+    let F = unit-fits g s s′ (L .taken) e in
+    let N = unit-lengths g s s′ e in record {
+      taken = F .taken;
+      marks = rw (F .width, F .height) (L .marks);
+      cells = rw (F .width, F .height) (N .board ∙ L .cells);
+      entries = rw (F .width, F .height, N .table) (L .entries);
+    }

@@ -1,0 +1,85 @@
+-- `solver::working::unit` meets its contract, by the job's stage.
+-- Assumes nothing.
+use mathlib.Core.Logic.{⊎-elim}
+use native.Mathlib.Omega.{arith}
+use mathlib.Core.Path.{_≡_, ap}
+use Rattle.solver.specs.Inner.{Fills, hasEnded}
+use Rattle.solver.proofs.Powers.{table-le}
+use Rattle.solver.proofs.Lending.{fills-of, chooses-of}
+use Rattle.solver.proofs.Steps.{filling-on, filling-over, moves-fill, moves-choose, moves-ended}
+use borrow.Author.Needs.{needs}
+use Rattle.solver.proofs.working.unit.Statement.{statement}
+use Rattle.solver.proofs.working.unit.Tie as tie
+
+enum-told : tie.Need-enum-told
+enum-told c = search needs
+
+fill-requires : tie.Need-fill-requires
+fill-requires c κs = let s = c .before .before .before .before .before .before in (s .pre .0, fills-of (s .pre .1) (c .before .enum-told .given .1))
+
+add-if1 : tie.Need-add-if1
+add-if1 c = let s = c .before .before .before .before .before .before .before .before .before in let f = fills-of (s .pre .1) (c .before .before .before .before .enum-told .given .1) in omega (arith, f .early, table-le (f .narrow) (f .low))
+
+table-size-requires : tie.Need-table-size-requires
+table-size-requires c κs = let s = c .before .before .before .before .before .before .before .before .before in let f = fills-of (s .pre .1) (c .before .before .before .before .enum-told .given .1) in (f .narrow, f .low)
+
+add-t18 : tie.Need-add-t18
+add-t18 c = let s = c .before .before .before .before .before .before .before .before .before .before .before in let f = fills-of (s .pre .1) (c .before .before .before .before .before .before .enum-told .given .1) in omega (arith, f .early, table-le (f .narrow) (f .low))
+
+enum-known-stage : tie.Need-enum-known-stage
+enum-known-stage c = search needs
+
+choose-requires : tie.Need-choose-requires
+choose-requires c κs = let s = c .before .before .before .before .before .before .before .before in (s .pre .0, chooses-of (s .pre .1) (c .before .before .before .stage .given .1))
+
+enum-told-2 : tie.Need-enum-told-2
+enum-told-2 c = search needs
+
+enum-told-3 : tie.Need-enum-told-3
+enum-told-3 c = search needs
+
+same-length : tie.Need-same-length
+same-length c = search needs
+
+returns : tie.Need-returns
+returns c =
+    moves-fill _ _ _ _ (c .before .before .before .before .before .before .enum-told .given .1) _
+    (⊎-elim (λ x. filling-on _ _ _ _ (x .0 .taken) (c .before .table-size .ensures .0) _ (x .1))
+    (λ x. filling-over _ _ _ _ (x .0 .left) (c .before .table-size .ensures .0) _ (x .1)) (c .if1 .came))
+    _ (c .before .before .before .before .fill .ensures)
+
+same-length-2 : tie.Need-same-length-2
+same-length-2 c = search needs
+
+same-length-3 : tie.Need-same-length-3
+same-length-3 c = search needs
+
+returns-2 : tie.Need-returns-2
+returns-2 c = moves-choose _ _ _ _ (c .before .before .before .before .before .before .stage .given .1) _ _ (c .before .before .choose .ensures)
+
+returns-3 : tie.Need-returns-3
+returns-3 c = moves-ended _ _ _ _ (ap hasEnded (c .enum-told2 .given .1))
+
+returns-4 : tie.Need-returns-4
+returns-4 c = moves-ended _ _ _ _ (ap hasEnded (c .enum-told3 .given .1))
+
+pub unit-spec : {M : Type 1} → statement M
+unit-spec =
+    tie.close
+    (tie.spec
+    enum-told
+    fill-requires
+    add-if1
+    table-size-requires
+    add-t18
+    enum-known-stage
+    choose-requires
+    enum-told-2
+    enum-told-3
+    same-length
+    returns
+    same-length-2
+    same-length-3
+    returns-2
+    returns-3
+    returns-4)

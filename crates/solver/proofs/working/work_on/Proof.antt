@@ -1,0 +1,106 @@
+-- `solver::working::work_on` meets its contract. The loop's invariant: the units that are left, from the state now, come to what all come to from the
+-- start; and the checks would still pass. The measure: the allowance left.
+-- Assumes nothing.
+use mathlib.Core.Path.{_≡_, refl, sym, _∙_}
+use mathlib.Core.Logic.{⊎-elim}
+use lib.ListN.{length}
+use Rattle.solver.specs.Calls.{worksOn}
+use Rattle.solver.specs.Inner.{Lent, lentState}
+use Rattle.solver.proofs.Steps.{works-moved, works-turned, works-spent, works-ended, lent-moved}
+use borrow.Author.Needs.{needs}
+use Rattle.solver.proofs.working.work_on.Statement.{statement}
+use Rattle.solver.proofs.working.work_on.Tie as tie
+
+abbrev Inv-loop : tie.InvT-loop
+Inv-loop givens table₀ board₀ allowance next job₀ left₀ table board job left =
+    (worksOn givens left (lentState job table board) ≡ worksOn givens allowance (lentState job₀ table₀ board₀)) ×
+    (length table ≡ length table₀) ×
+    (length board ≡ length board₀) ×
+    Lent job givens table board
+
+abbrev μ-loop : tie.MeasureT-loop
+μ-loop givens table₀ board₀ allowance next job₀ left₀ table board job left = left
+
+conway-requires : tie.Need-conway-requires Inv-loop μ-loop
+conway-requires c κs = search needs
+
+loop-holds : tie.Need-loop-holds Inv-loop μ-loop
+loop-holds c = (refl, refl, refl, c .before .before .before .before .pre)
+
+has-ended-requires : tie.Need-has-ended-requires Inv-loop μ-loop
+has-ended-requires c κs = search needs
+
+unit-requires : tie.Need-unit-requires Inv-loop μ-loop
+unit-requires c κs = (c .before .before .before .before .before .before .before .conway .ensures, c .before .before .before .before .before .before .loop .inv .3)
+
+enum-known-j : tie.Need-enum-known-j Inv-loop μ-loop
+enum-known-j c = search needs
+
+enum-told : tie.Need-enum-told Inv-loop μ-loop
+enum-told c = search needs
+
+same-length : tie.Need-same-length Inv-loop μ-loop
+same-length c = search needs
+
+same-length-2 : tie.Need-same-length-2 Inv-loop μ-loop
+same-length-2 c = search needs
+
+returns : tie.Need-returns Inv-loop μ-loop
+returns c =
+    works-turned _ _ _ _ _ _ _ (c .before .before .before .before .before .before .unit .ensures) (c .enum-told .given .1) _ (c .before .before .before .before .before .before .before .before .before .before .before .before .loop-test .left)
+    ∙ c .before .before .before .before .before .before .before .before .before .before .before .before .before .loop .inv .0
+
+sub-left : tie.Need-sub-left Inv-loop μ-loop
+sub-left c = search needs
+
+loop-less : tie.Need-loop-less Inv-loop μ-loop
+loop-less c = search needs
+
+loop-again : tie.Need-loop-again Inv-loop μ-loop
+loop-again c =
+    let l = c .before .before .before .before .before .before .before .before .before .before .before .before .before .before .loop in
+    let u = c .before .before .before .before .before .before .before .unit in
+    let e = c .before .j .given .1 in (
+      works-moved _ _ _ _ _ _ _ (u .ensures) _ e _ (c .before .before .before .before .before .before .before .before .before .before .before .before .before .loop-test .left) ∙ l .inv .0,
+      u .kept .1 .1 .1 .0 ∙ l .inv .1,
+      u .kept .1 .1 .1 .1 .0 ∙ l .inv .2,
+      lent-moved _ _ _ _ _ _ _ (u .ensures) _ e (l .inv .3),
+    )
+
+status-of-requires : tie.Need-status-of-requires Inv-loop μ-loop
+status-of-requires c κs = search needs
+
+same-length-3 : tie.Need-same-length-3 Inv-loop μ-loop
+same-length-3 c = search needs
+
+same-length-4 : tie.Need-same-length-4 Inv-loop μ-loop
+same-length-4 c = search needs
+
+returns-2 : tie.Need-returns-2 Inv-loop μ-loop
+returns-2 c =
+    ⊎-elim (λ x. works-spent _ _ _ _ _ (c .status-of .ensures) _ (x .taken)) (λ x. works-ended _ _ _ _ _ (c .status-of .ensures) _ (sym (x .1 .ensures) ∙ x .2 .taken))
+    (c .before .loop-test .came)
+    ∙ c .before .before .loop .inv .0
+
+pub work-on-spec : {M : Type 1} → statement M
+work-on-spec =
+    tie.close
+    (tie.spec
+    Inv-loop
+    μ-loop
+    conway-requires
+    loop-holds
+    has-ended-requires
+    unit-requires
+    enum-known-j
+    enum-told
+    same-length
+    same-length-2
+    returns
+    sub-left
+    loop-less
+    loop-again
+    status-of-requires
+    same-length-3
+    same-length-4
+    returns-2)

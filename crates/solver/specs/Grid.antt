@@ -1,0 +1,39 @@
+-- Document 01, "Grid, row word, givens": givens kept, the score, board order, and the board that is wanted.
+-- Assumes nothing.
+use mathlib.Core.Path.{_≡_}
+use mathlib.Core.List.{List}
+use mathlib.Core.Logic.{_⊎_}
+use Prim.Native.Nat.{ℕ, _*_, _≤_, _<_}
+use lib.ListN.{getD}
+use Rattle.board.specs.Sums.{total}
+use Rattle.board.specs.Boards.{Board}
+use Rattle.life.specs.Plane.{onPlane, Still}
+use Rattle.life.specs.Rows.{rowOf}
+
+-- a board keeps the givens: every given cell has its given state, 1 given dead, 2 given live
+pub record KeepsGivens (w h : ℕ) (givens board : List ℕ) : Type 0 where
+  pub dead : (p : ℕ) → p < w * h → getD givens p 0 ≡ 1 → getD board p 0 ≡ 0
+  pub live : (p : ℕ) → p < w * h → getD givens p 0 ≡ 2 → getD board p 0 ≡ 1
+
+-- a still board that keeps the givens
+pub record Solution (w h : ℕ) (givens board : List ℕ) : Type 0 where
+  pub grid : Board w h board
+  pub still : Still (onPlane w h board)
+  pub keeps : KeepsGivens w h givens board
+
+-- the score: the number of live cells
+unfoldable pub population : ℕ → ℕ → List ℕ → ℕ
+population w h board = total (λ p. getD board p 0) (w * h)
+
+-- board order: the first row whose numbers differ decides, and the smaller comes first
+pub record Precedes (w h : ℕ) (board other : List ℕ) : Type 0 where
+  pub row : ℕ
+  pub inside : row ≤ h
+  pub equal : (r : ℕ) → r < row → rowOf w h board r ≡ rowOf w h other r
+  pub smaller : rowOf w h board row < rowOf w h other row
+
+-- the board that is wanted: it is a solution, no solution has more live cells, and any other that has as many comes later in board order
+pub record Optimal (w h : ℕ) (givens board : List ℕ) : Type 0 where
+  pub solution : Solution w h givens board
+  pub most : (other : List ℕ) → Solution w h givens other → population w h other ≤ population w h board
+  pub earliest : (other : List ℕ) → Solution w h givens other → population w h other ≡ population w h board → (other ≡ board) ⊎ Precedes w h board other

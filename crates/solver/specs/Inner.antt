@@ -1,0 +1,80 @@
+-- What the inner functions are lent and answer, in the terms of the score table and of a unit.
+-- Assumes nothing.
+use mathlib.Core.Path.{_≡_}
+use mathlib.Core.Bool.{Bool, true, false}
+use mathlib.Core.List.{List}
+use Prim.Native.Nat.{ℕ, _+_, _*_, _-_, _/_, _^_, _≤_, _<_}
+use lib.ListN.{length}
+use Rattle.elimination.specs.Candidates.{Choice}
+use Rattle.solver.specs.ScoreTable.{choiceOf}
+use Rattle.solver.specs.Jobs.{tableSize, jobFits}
+use Rattle.solver.specs.Units.{State, Step, next, spoiled, stageStep, unitOf}
+use Rattle.solver.specs.declared.best.Best.{Best}
+use Rattle.solver.specs.declared.choosing.Stepped.{Stepped}
+use Rattle.solver.specs.declared.Stage.{Stage}
+use Rattle.solver.specs.declared.Job.{Job}
+
+-- ---- the best row
+-- the next row that differs from x in columns 1 to j + 1
+unfoldable pub skipTo : ℕ → ℕ → ℕ → ℕ
+skipTo w x j = (x / 2 ^ (w - (j + 1)) + 1) * 2 ^ (w - (j + 1))
+
+-- the best row is the rule's choice; a row that is found is one, and its number fits 16 bits
+pub record Found (w : ℕ) (r : Best) (wanted : Choice ℕ) : Type 0 where
+  pub is : choiceOf r ≡ wanted
+  pub row-lt : (c n : ℕ) → r ≡ Best.Row c n → c < 2 ^ w
+  pub number-le : (c n : ℕ) → r ≡ Best.Row c n → n ≤ 600 + w
+
+-- ---- units
+-- the entries of a layer
+abbrev pub layerSize : ℕ → ℕ
+layerSize w = 4 ^ w
+
+-- the job has ended
+abbrev pub hasEnded : Stage → Bool
+hasEnded Stage.Filling = false
+hasEnded (Stage.Choosing above last live) = false
+hasEnded (Stage.Finished above last score) = true
+hasEnded Stage.Infeasible = true
+
+abbrev pub lentState : Job → List ℕ → List ℕ → State
+lentState j table board = record { job = j; table = table; board = board }
+
+-- what the checks of a working call leave for its units
+pub record Lent (j : Job) (givens table board : List ℕ) : Type 0 where
+  pub taken : jobFits j ≡ true
+  pub marks : length givens ≡ j .width * j .height
+  pub cells : length board ≡ j .width * j .height
+  pub entries : tableSize (j .width) (j .height) ≤ length table
+
+pub record Fills (w h u : ℕ) (givens table : List ℕ) : Type 0 where
+  pub narrow : w ≤ 10
+  pub low : h ≤ 60
+  pub early : u < tableSize w h
+  pub marks : length givens ≡ w * h
+  pub entries : tableSize w h ≤ length table
+
+pub record Chooses (j : Job) (above last live : ℕ) (givens table board : List ℕ) : Type 0 where
+  pub narrow : j .width ≤ 10
+  pub low : j .height ≤ 60
+  pub over : above < 2 ^ j .width
+  pub below : last < 2 ^ j .width
+  pub from : tableSize (j .width) (j .height) ≤ j .units
+  pub until : j .units < tableSize (j .width) (j .height) + j .height
+  pub few : live ≤ 600
+  pub marks : length givens ≡ j .width * j .height
+  pub cells : length board ≡ j .width * j .height
+  pub entries : tableSize (j .width) (j .height) ≤ length table
+
+abbrev pub stepOf : Stepped → List ℕ → List ℕ → Step
+stepOf (Stepped.Next j) table board = next (lentState j table board)
+stepOf Stepped.Spoiled table board = spoiled
+
+-- a unit that can't be done writes nothing
+pub record Moves (j : Job) (givens table board : List ℕ) (r : Stepped) (table′ board′ : List ℕ) : Type 0 where
+  pub step : stepOf r table′ board′ ≡ unitOf givens (lentState j table board)
+  pub same : r ≡ Stepped.Spoiled → (table′ ≡ table) × (board′ ≡ board)
+
+pub record Chosen (j : Job) (above last live : ℕ) (givens table board : List ℕ) (r : Stepped) (board′ : List ℕ) : Type 0 where
+  pub step : stepOf r table board′ ≡ stageStep givens (j .width) (j .height) (j .units) (Stage.Choosing above last live) table board
+  pub same : r ≡ Stepped.Spoiled → board′ ≡ board

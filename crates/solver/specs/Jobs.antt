@@ -1,0 +1,183 @@
+-- Document 01, "A job and its units": a job, its seven numbers, which of them fit, and the checks of opening, pausing, resuming and working.
+-- `Checkpoint` is the paper's seven numbers, and the stage `Infeasible` its none.
+-- Assumes nothing.
+use mathlib.Core.Bool.{Bool, true, false, cond, _&&_}
+use mathlib.Core.List.{List, [], _∷_}
+use Prim.Native.Nat.{ℕ, _+_, _*_, _-_, _^_}
+use lib.Dec.{eqb, leb, ltb}
+use lib.ListN.{length}
+use Rattle.board.specs.Answers.{Answer, gives, refusalSays, _then_, refuseUnless}
+use Rattle.board.specs.Boards.{among}
+use Rattle.board.specs.Checks.{sizeCheck, givensCheck, lengthCheck}
+use Rattle.solver.specs.declared.Stage.{Stage}
+use Rattle.solver.specs.declared.Job.{Job}
+use Rattle.solver.specs.declared.Checkpoint.{Checkpoint}
+use Rattle.solver.specs.declared.Opened.{Opened}
+use Rattle.solver.specs.declared.Paused.{Paused}
+use Rattle.solver.specs.declared.Resumed.{Resumed}
+use Rattle.solver.specs.declared.Status.{Status}
+
+-- ---- lengths
+-- the entries of the table, which are the units of filling: h × 4^w
+unfoldable pub tableSize : ℕ → ℕ → ℕ
+tableSize w h = h * 4 ^ w
+
+-- a job's length where a still board that keeps the givens exists, and where none does
+abbrev pub boardLength : ℕ → ℕ → ℕ
+boardLength w h = h * (4 ^ w + 1)
+
+abbrev pub noneLength : ℕ → ℕ → ℕ
+noneLength w h = h * 4 ^ w + 1
+
+-- ---- the seven numbers of a job
+-- row above, last row, live cells so far and end mark of a stage
+abbrev pub aboveOf : Stage → ℕ
+aboveOf Stage.Filling = 0
+aboveOf (Stage.Choosing above last live) = above
+aboveOf (Stage.Finished above last score) = above
+aboveOf Stage.Infeasible = 0
+
+abbrev pub lastOf : Stage → ℕ
+lastOf Stage.Filling = 0
+lastOf (Stage.Choosing above last live) = last
+lastOf (Stage.Finished above last score) = last
+lastOf Stage.Infeasible = 0
+
+abbrev pub liveOf : Stage → ℕ
+liveOf Stage.Filling = 0
+liveOf (Stage.Choosing above last live) = live
+liveOf (Stage.Finished above last score) = score
+liveOf Stage.Infeasible = 0
+
+abbrev pub markOf : Stage → ℕ
+markOf Stage.Filling = 0
+markOf (Stage.Choosing above last live) = 0
+markOf (Stage.Finished above last score) = 1
+markOf Stage.Infeasible = 2
+
+abbrev pub numbersOf : Job → Checkpoint
+numbersOf j = record {
+  width = j .width;
+  height = j .height;
+  units = j .units;
+  above = aboveOf (j .stage);
+  last = lastOf (j .stage);
+  live = liveOf (j .stage);
+  mark = markOf (j .stage);
+}
+
+-- in the paper's terms the seven numbers are themselves, and a job is its seven numbers
+abbrev pub checkpointSays : Checkpoint → List ℕ
+checkpointSays t = t .width ∷ t .height ∷ t .units ∷ t .above ∷ t .last ∷ t .live ∷ t .mark ∷ []
+
+abbrev pub jobSays : Job → List ℕ
+jobSays j = checkpointSays (numbersOf j)
+
+-- ---- which numbers fit
+-- units by the end mark: below h × (4^w + 1) for mark 0, equal to it for mark 1, h × 4^w + 1 for mark 2; no other mark
+unfoldable pub unitsFit : ℕ → ℕ → ℕ → ℕ → Bool
+unitsFit w h units mark =
+    cond (eqb mark 0) (ltb units (tableSize w h + h))
+    (cond (eqb mark 1) (eqb units (tableSize w h + h))
+    (cond (eqb mark 2) (eqb units (tableSize w h + 1)) false))
+
+-- the rows chosen: the units beyond h × 4^w; for mark 2 no row counts as chosen
+unfoldable pub rowsChosen : ℕ → ℕ → ℕ → ℕ → ℕ
+rowsChosen w h units mark = cond (eqb mark 2) 0 (units - tableSize w h)
+
+-- with k rows chosen, live is at most w × k, last row is 0 if k = 0, row above is 0 if k is below 2
+unfoldable pub rowsFit : ℕ → ℕ → ℕ → ℕ → ℕ → Bool
+rowsFit w k above last live = leb live (w * k) && cond (eqb k 0) (eqb last 0) true && cond (ltb k 2) (eqb above 0) true
+
+-- the numbers that resuming takes: width and height fit, both rows are below 2^w, and the units and rows fit
+unfoldable pub checkpointFits : Checkpoint → Bool
+checkpointFits t =
+    among 10 (t .width) &&
+    among 60 (t .height) &&
+    ltb (t .above) (2 ^ t .width) &&
+    ltb (t .last) (2 ^ t .width) &&
+    unitsFit (t .width) (t .height) (t .units) (t .mark) &&
+    rowsFit (t .width) (rowsChosen (t .width) (t .height) (t .units) (t .mark)) (t .above) (t .last) (t .live)
+
+-- a running job is filling while its units are below h × 4^w and choosing from there on
+abbrev pub stageFits : ℕ → ℕ → ℕ → Stage → Bool
+stageFits w h units Stage.Filling = ltb units (tableSize w h)
+stageFits w h units (Stage.Choosing above last live) = leb (tableSize w h) units
+stageFits w h units (Stage.Finished above last score) = true
+stageFits w h units Stage.Infeasible = true
+
+-- the jobs that pausing and working take
+unfoldable pub jobFits : Job → Bool
+jobFits j = checkpointFits (numbersOf j) && stageFits (j .width) (j .height) (j .units) (j .stage)
+
+-- ---- opening, pausing, resuming
+-- the job that opening hands out, at unit 0
+abbrev pub start : ℕ → ℕ → Job
+start w h = record { width = w; height = h; units = 0; stage = Stage.Filling }
+
+-- the job that resuming hands out
+unfoldable pub stageOf : Checkpoint → Stage
+stageOf t =
+    cond (eqb (t .mark) 1) (Stage.Finished (t .above) (t .last) (t .live))
+    (cond (eqb (t .mark) 2) Stage.Infeasible
+    (cond (ltb (t .units) (tableSize (t .width) (t .height))) Stage.Filling (Stage.Choosing (t .above) (t .last) (t .live))))
+
+abbrev pub jobOf : Checkpoint → Job
+jobOf t = record { width = t .width; height = t .height; units = t .units; stage = stageOf t }
+
+-- opening: 1, 2, 3, 4
+unfoldable pub openRule : ℕ → ℕ → List ℕ → Answer
+openRule w h givens = sizeCheck w h then givensCheck w h givens then gives (jobSays (start w h))
+
+-- pausing: 7
+unfoldable pub pauseRule : Job → Answer
+pauseRule j = refuseUnless (jobFits j) 7 then gives (jobSays j)
+
+-- resuming: 7
+unfoldable pub resumeRule : Checkpoint → Answer
+resumeRule t = refuseUnless (checkpointFits t) 7 then gives (checkpointSays t)
+
+-- ---- working
+-- its checks: 7, 3, 4, 5, 6
+unfoldable pub workCheck : Job → List ℕ → List ℕ → List ℕ → Answer
+workCheck j givens table board =
+    refuseUnless (jobFits j) 7 then
+    givensCheck (j .width) (j .height) givens then
+    lengthCheck 5 (j .width) (j .height) board then
+    refuseUnless (leb (tableSize (j .width) (j .height)) (length table)) 6
+
+-- what a working call answers that is no refusal: its end mark, and of finished its score
+abbrev pub unfinished : Answer
+unfinished = gives (0 ∷ [])
+
+abbrev pub finished : ℕ → Answer
+finished score = gives (1 ∷ score ∷ [])
+
+abbrev pub infeasible : Answer
+infeasible = gives (2 ∷ [])
+
+-- the answer for a job in a stage
+abbrev pub stageSays : Stage → Answer
+stageSays Stage.Filling = unfinished
+stageSays (Stage.Choosing above last live) = unfinished
+stageSays (Stage.Finished above last score) = finished score
+stageSays Stage.Infeasible = infeasible
+
+-- ---- the paper's number and values of each answer
+abbrev pub openedSays : Opened → Answer
+openedSays (Opened.Ready j) = gives (jobSays j)
+openedSays (Opened.Refused r) = refusalSays r
+
+abbrev pub pausedSays : Paused → Answer
+pausedSays (Paused.Numbers t) = gives (checkpointSays t)
+pausedSays (Paused.Refused r) = refusalSays r
+
+abbrev pub resumedSays : Resumed → Answer
+resumedSays (Resumed.Ready j) = gives (jobSays j)
+resumedSays (Resumed.Refused r) = refusalSays r
+
+abbrev pub statusSays : Status → Answer
+statusSays Status.Unfinished = unfinished
+statusSays (Status.Finished score) = finished score
+statusSays Status.Infeasible = infeasible
+statusSays (Status.Refused r) = refusalSays r

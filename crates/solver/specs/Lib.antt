@@ -1,0 +1,9 @@
+pub mod Grid
+pub mod Rows
+pub mod ScoreTable
+pub mod Jobs
+pub mod Units
+pub mod Calls
+pub mod Demand
+pub mod Inner
+pub mod Theorems

@@ -1,0 +1,28 @@
+-- Document 01, "Grid, row word, givens", of one row: its live cells, the givens that it keeps, and its cells as bytes of a board.
+-- A row is its number; column k + 1 is counted by k, from 0.
+-- Assumes nothing.
+use mathlib.Core.Bool.{Bool, true, cond}
+use mathlib.Core.List.{List}
+use Prim.Native.Nat.{ℕ, zero, suc, _+_}
+use lib.Dec.{eqb}
+use lib.ListN.{getD, set}
+use Rattle.board.specs.Search.{allBelow}
+use Rattle.board.specs.Sums.{total}
+use Rattle.life.specs.Rows.{digitIn}
+
+-- the live cells of a row
+unfoldable pub live : ℕ → ℕ → ℕ
+live w row = total (λ k. digitIn w row (k + 1)) w
+
+-- a cell keeps its mark: 1 given dead, 2 given live, otherwise free
+unfoldable pub markKept : ℕ → ℕ → Bool
+markKept mark cell = cond (eqb mark 1) (eqb cell 0) (cond (eqb mark 2) (eqb cell 1) true)
+
+-- a row keeps the givens that start at a place of the grid
+unfoldable pub rowKept : ℕ → List ℕ → ℕ → ℕ → Bool
+rowKept w givens at row = allBelow (λ k. markKept (getD givens (at + k) 0) (digitIn w row (k + 1))) w
+
+-- the board with the first n cells of a row written from a place on
+unfoldable pub written : ℕ → ℕ → List ℕ → ℕ → ℕ → List ℕ
+written w row board at zero = board
+written w row board at (suc n) = set (written w row board at n) (at + n) (digitIn w row (n + 1))

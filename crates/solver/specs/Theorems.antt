@@ -1,0 +1,69 @@
+-- What is proved of the rules over the rows of a grid: an ending is a solution, the rows that are chosen are the wanted board, and an entry is
+-- what document 01, "The score table", says it is. The third demand and the round trip are stated in `Demand` and `Calls`.
+-- Assumes nothing.
+use mathlib.Core.Path.{_≡_}
+use mathlib.Core.Logic.{_↔_}
+use mathlib.Core.List.{List, [], _∷_}
+use Prim.Native.Nat.{ℕ, zero, suc, _+_, _-_, _^_, _≤_, _<_}
+use Rattle.board.specs.Boards.{Sized, Board}
+use Rattle.elimination.specs.Kind.{entry, rightEntry, rightRows}
+use Rattle.elimination.specs.Endings.{Ending}
+use Rattle.life.specs.Rule.{conway}
+use Rattle.life.specs.Rows.{rowOf}
+use Rattle.solver.specs.Grid.{Solution, Optimal, population}
+use Rattle.solver.specs.Rows.{live}
+use Rattle.solver.specs.ScoreTable.{kindOf, readsOf}
+
+-- ---- boards and endings
+-- the k rows of a board that follow row r, as numbers
+unfoldable pub nextRows : ℕ → ℕ → List ℕ → ℕ → ℕ → List ℕ
+nextRows w h board r zero = []
+nextRows w h board r (suc k) = rowOf w h board (suc r) ∷ nextRows w h board (suc r) k
+
+-- rows 1 to h of a board
+abbrev pub allRows : ℕ → ℕ → List ℕ → List ℕ
+allRows w h board = nextRows w h board 0 h
+
+-- the k rows cs may stand below a over b and end the board there: every three neighbouring rows agree, and each keeps its givens
+abbrev pub GridEnding : ℕ → ℕ → List ℕ → ℕ → ℕ → ℕ → List ℕ → Type 0
+GridEnding w h givens k a b cs = Ending (kindOf conway w h givens) k a b cs
+
+-- below two dead rows, a board's rows are an ending exactly when the board is a solution
+abbrev pub EndingsAreSolutions : Type 0
+EndingsAreSolutions = (w h : ℕ) (givens board : List ℕ) → Board w h board → GridEnding w h givens h 0 0 (allRows w h board) ↔ Solution w h givens board
+
+-- ---- the rows that are chosen
+-- by right entries either the wanted board is chosen, and the right entry is its score; or there is no solution, and the right entry says so
+pub data BestOrNone (w h : ℕ) (givens : List ℕ) : Type 0 where
+  best : (board : List ℕ) → Optimal w h givens board → allRows w h board ≡ rightRows (kindOf conway w h givens) h 0 0
+      → population w h board ≡ rightEntry (kindOf conway w h givens) h 0 0 → BestOrNone w h givens
+  none : ((board : List ℕ) → Solution w h givens board → ⊥) → rightEntry (kindOf conway w h givens) h 0 0 ≡ 65535 → BestOrNone w h givens
+
+abbrev pub ChoiceIsOptimal : Type 0
+ChoiceIsOptimal = (w h : ℕ) (givens : List ℕ) → Sized w h → BestOrNone w h givens
+
+-- ---- entries
+-- the live cells of rows
+unfoldable pub liveInRows : ℕ → List ℕ → ℕ
+liveInRows w [] = 0
+liveInRows w (c ∷ cs) = live w c + liveInRows w cs
+
+-- x is the greatest number of live cells of k rows that end the board below a over b, or 65,535 where there are none such
+pub data Greatest (w h : ℕ) (givens : List ℕ) (k a b x : ℕ) : Type 0 where
+  greatest : (cs : List ℕ) → GridEnding w h givens k a b cs → liveInRows w cs ≡ x → x ≤ 600
+      → ((ds : List ℕ) → GridEnding w h givens k a b ds → liveInRows w ds ≤ x) → Greatest w h givens k a b x
+  noEnding : ((ds : List ℕ) → GridEnding w h givens k a b ds → ⊥) → x ≡ 65535 → Greatest w h givens k a b x
+
+-- layer i of a table is right: each of its entries (i, b, c) is the right one
+abbrev pub RightLayer : ℕ → ℕ → List ℕ → List ℕ → ℕ → Type 0
+RightLayer w h givens table i = (b c : ℕ) → b < 2 ^ w → c < 2 ^ w → readsOf w table i b c ≡ rightEntry (kindOf conway w h givens) (h - i) b c
+
+-- over a table whose layer i + 1 is right, the rule of entry (i, a, b) gives the right entry; layer h reads no layer. And a right entry is the
+-- greatest number of live cells in rows i + 1 to h when row i - 1 is a and row i is b
+pub record EntryRight (w h : ℕ) (givens : List ℕ) (i a b : ℕ) : Type 0 where
+  pub rule : (table : List ℕ) → (i < h → RightLayer w h givens table (i + 1))
+      → entry (kindOf conway w h givens) (h - i) a b (readsOf w table (i + 1) b) ≡ rightEntry (kindOf conway w h givens) (h - i) a b
+  pub means : Greatest w h givens (h - i) a b (rightEntry (kindOf conway w h givens) (h - i) a b)
+
+abbrev pub EntriesRight : Type 0
+EntriesRight = (w h : ℕ) (givens : List ℕ) → Sized w h → (i a b : ℕ) → i ≤ h → b < 2 ^ w → EntryRight w h givens i a b

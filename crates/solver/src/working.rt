@@ -1,0 +1,165 @@
+// A working call: its checks, and then its units.
+use crate::Job;
+use crate::Stage;
+use crate::Status;
+use crate::Worked;
+use crate::choosing;
+use crate::choosing::Stepped;
+use crate::filling;
+use crate::numbers;
+use board::Check;
+use board::Refusal;
+ghost use mathlib.Core.Path.{_≡_};
+ghost use Rattle.board.specs.Answers.{checkSays};
+ghost use Rattle.life.specs.Rule.{Conway};
+ghost use Rattle.solver.specs.Jobs.{workCheck, stageSays, statusSays};
+ghost use Rattle.solver.specs.Calls.{resultOf, worksOn};
+ghost use Rattle.solver.specs.Inner.{Lent, Moves, hasEnded, lentState};
+
+// The checks of a working call: 7, 3, 4, 5, 6.
+pub fn check_work(job: Job, givens: &[u8], table: &[u16], board: &[u8]) -> Check
+    ensures { λ r. ⌜ checkSays r ≡ workCheck job (now (givens .entry)) (now (table .entry)) (now (board .entry)) ⌝ }
+{
+    if !numbers::job_fits(job) {
+        return Check::Refused(Refusal::Checkpoint);
+    }
+    let w = job.width;
+    let h = job.height;
+    if let Check::Refused(r) = board::check_givens(w, h, givens) {
+        return Check::Refused(r);
+    }
+    if !board::has_length(board, w, h) {
+        return Check::Refused(Refusal::BoardLength);
+    }
+    if table.len() < numbers::table_size(w, h) {
+        return Check::Refused(Refusal::ShortTable);
+    }
+    Check::Passed
+}
+
+// The answer for a job in a stage.
+fn status_of(stage: Stage) -> Status
+    ensures { λ r. ⌜ statusSays r ≡ stageSays stage ⌝ }
+{
+    match stage {
+        Stage::Filling => Status::Unfinished,
+        Stage::Choosing {
+            above: _,
+            last: _,
+            live: _,
+        } => Status::Unfinished,
+        Stage::Finished {
+            above: _,
+            last: _,
+            score,
+        } => Status::Finished(score),
+        Stage::Infeasible => Status::Infeasible,
+    }
+}
+
+fn has_ended(stage: Stage) -> bool
+    ensures { λ r. ⌜ r ≡ hasEnded stage ⌝ }
+{
+    match stage {
+        Stage::Filling => false,
+        Stage::Choosing {
+            above: _,
+            last: _,
+            live: _,
+        } => false,
+        Stage::Finished {
+            above: _,
+            last: _,
+            score: _,
+        } => true,
+        Stage::Infeasible => true,
+    }
+}
+
+// One unit of a job that passed its checks; an ended job stays.
+fn unit(next: &[u8; 512], job: Job, givens: &[u8], table: &mut [u16], board: &mut [u8]) -> Stepped
+    requires { ⌜ Conway (now next) ⌝ }
+    requires { ⌜ Lent job (now givens) (now table) (now board) ⌝ }
+    ensures { λ r. ⌜ Moves job (now (givens .entry)) (now (table .entry)) (now (board .entry)) r (now (table .exit)) (now (board .exit)) ⌝ }
+{
+    let stage = job.stage;
+    match stage {
+        Stage::Filling => {
+            let w = job.width;
+            let h = job.height;
+            let u = job.units;
+            filling::fill(next, w, h, u, givens, table);
+            let stage = if u + 1 < numbers::table_size(w, h) {
+                Stage::Filling
+            } else {
+                Stage::Choosing {
+                    above: 0,
+                    last: 0,
+                    live: 0,
+                }
+            };
+            Stepped::Next(Job {
+                width: w,
+                height: h,
+                units: u + 1, // one entry
+                stage,
+            })
+        }
+        Stage::Choosing { above, last, live } => choosing::choose(
+            next,
+            job,
+            above,
+            last,
+            live,
+            givens,
+            table,
+            board,
+        ),
+        Stage::Finished {
+            above: _,
+            last: _,
+            score: _,
+        } => Stepped::Next(job),
+        Stage::Infeasible => Stepped::Next(job),
+    }
+}
+
+// The units of a working call that passed its checks.
+pub fn work_on(
+    start: Job,
+    givens: &[u8],
+    table: &mut [u16],
+    board: &mut [u8],
+    allowance: u32,
+) -> Worked
+    requires { ⌜ Lent start (now givens) (now table) (now board) ⌝ }
+    ensures { λ r. ⌜ resultOf r (now (table .exit)) (now (board .exit)) ≡ worksOn (now (givens .entry)) allowance (lentState start (now (table .entry)) (now (board .entry))) ⌝ }
+{
+    let next = life::table::conway();
+    let mut job = start;
+    let mut left = allowance;
+    loop {
+        if left == 0 {
+            break;
+        }
+        let stage = job.stage;
+        if has_ended(stage) {
+            break;
+        }
+        match unit(&next, job, givens, table, board) {
+            Stepped::Next(j) => {
+                job = j;
+            }
+            Stepped::Spoiled => {
+                return Worked {
+                    job, // before the row
+                    status: Status::Refused(Refusal::SpoiledTable),
+                };
+            }
+        }
+        left -= 1;
+    }
+    let stage = job.stage;
+    let status = status_of(stage);
+    Worked { job, status }
+}
