@@ -3,13 +3,13 @@
 use mathlib.Core.Path.{_≡_}
 use mathlib.Core.Option.{Option, none, some}
 use mathlib.Core.List.{List}
-use Prim.Native.Nat.{ℕ, suc, _*_, _<_, _≤_}
+use Prim.Native.Nat.{ℕ, _*_, _<_, _≤_}
 use native.Mathlib.Omega.{arith}
 use borrow.Author.Tests.{eqb-true, leb-true, eq-eqb, le-leb}
 use lib.ListN.{length, getD}
 use Rattle.board.specs.Search.{firstNot}
 use Rattle.board.specs.Answers.{gives, passed, _then_}
-use Rattle.board.specs.Boards.{among, Sized, Bytes, Board, Givens}
+use Rattle.board.specs.Boards.{among, Sized, Bytes, Board}
 use Rattle.board.specs.Checks.{lengthCheck, bytesCheck, widthCheck, heightCheck, sizeCheck, cellsCheck, givensCheck, boardCheck, atMost, ChecksRight}
 use Rattle.board.proofs.Tests.{among-yes, among-in}
 use Rattle.board.proofs.Answers.{then-gives, unless-gives, at-gives}

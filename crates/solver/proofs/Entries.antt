@@ -5,12 +5,10 @@ use mathlib.Core.Bool.{Bool, true, false, cond, _&&_}
 use mathlib.Core.List.{List}
 use mathlib.Core.Option.{Option}
 use Prim.Native.Nat.{ℕ, zero, suc, _+_, _*_, _-_, _/_, _%_, _^_, _<_, _≤_}
-use native.Mathlib.Nat.{mul-le-mul-right, div-lt-iff-lt-mul, mod-lt, div-add-mod'}
+use native.Mathlib.Nat.{mul-le-mul-right, div-lt-iff-lt-mul, mod-lt}
 use native.Mathlib.Omega.{arith}
-use lib.Arith.{digits-lt}
 use lib.Dec.{eqb}
 use lib.IntN.{pos, predℤ, sucℤ}
-use lib.ListN.{getD}
 use lib.Pow.{pow-pos}
 use Rattle.board.specs.Search.{allBelow}
 use Rattle.elimination.specs.Candidates.{scan}
@@ -28,6 +26,7 @@ use Rattle.solver.specs.Inner.{Found}
 use Rattle.solver.specs.declared.best.Best.{Best}
 use Rattle.solver.proofs.Columns.{cell-small}
 use Rattle.solver.proofs.Powers.{four-two, four-pos}
+use Rattle.solver.proofs.TableLaws.{unit-place, unit-place-lt}
 
 -- ---- Conway's table
 -- the pattern around a column is one of 512
@@ -144,16 +143,10 @@ module _ (w h u q n : ℕ) (eq : q ≡ 4 ^ w) (en : n ≡ 2 ^ w) where
     after-lt = rw eq (div-lt-iff-lt-mul (four-pos w) .1 early)
 
     pub place-below : (h - 1 - u / q) * q + u % q < tableSize w h
-    unfolding tableSize
-    place-below =
-        let k : u / 4 ^ w < h = rw eq at after-lt in
-        rw eq (digits-lt (omega arith) (mod-lt u (four-pos w)))
+    place-below = rw eq (rw (unit-place w h u) at (unit-place-lt w h u early))
 
   pub place-is : (h - 1 - u / q) * q + u % q ≡ unitPlace w h u
-  unfolding unitPlace placeOf
-  place-is =
-      let d : h - u / 4 ^ w - 1 ≡ h - 1 - u / 4 ^ w = omega arith in
-      rw (eq, d) (omega (arith, div-add-mod' (u % 4 ^ w) (2 ^ w)))
+  place-is = rw eq (sym (unit-place w h u))
 
   module _ (table512 : List ℕ) (C : Conway table512) (givens table : List ℕ) where
     -- layer h

@@ -9,17 +9,16 @@ use borrow.Author.Tests.{ltb-true, leb-true, eqb-true, lt-ltb, le-ltb, le-leb, e
 use lib.Dec.{ltb, leb, eqb}
 use lib.ListN.{getD}
 use lib.Pow.{pow-pos}
-use Rattle.board.specs.Answers.{Answer, gives, refuses, _then_, refuseUnless}
+use Rattle.board.specs.Answers.{Answer, gives, refuses, refuseUnless}
 use Rattle.board.specs.Boards.{among, Sized}
 use Rattle.board.proofs.Answers.{refuses-none, then-gives, unless-gives}
 use Rattle.board.proofs.Tests.{and-left, and-right, among-yes, among-in}
 use Rattle.solver.specs.Jobs.{tableSize, unitsFit, rowsChosen, rowsFit, checkpointFits, numbersOf, checkpointSays, jobSays, stageFits, jobFits, stageOf, jobOf, pauseRule, resumeRule, pausedSays, resumedSays}
-use Rattle.solver.specs.Calls.{Pauses, Resumes, RoundTrip}
+use Rattle.solver.specs.Calls.{RoundTrip}
 use Rattle.solver.specs.Demand.{Pausable}
 use Rattle.solver.specs.declared.Stage.{Stage}
 use Rattle.solver.specs.declared.Job.{Job}
 use Rattle.solver.specs.declared.Checkpoint.{Checkpoint}
-use Rattle.solver.specs.declared.Paused.{Paused}
 use Rattle.solver.specs.declared.Resumed.{Resumed}
 
 pub and-true : {s t : Bool} → s ≡ true → t ≡ true → s && t ≡ true

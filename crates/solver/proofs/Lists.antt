@@ -18,7 +18,7 @@ use Rattle.elimination.proofs.Machine.{advance-suc, after-units}
 use Rattle.solver.specs.Jobs.{tableSize, jobFits, checkpointFits, checkpointSays, jobOf, pauseRule, resumeRule, workCheck, stageSays, unfinished}
 use Rattle.solver.specs.Units.{State, Step, next, spoiled, unitOf}
 use Rattle.solver.specs.Calls.{Result, onStep, worksOn, workBy, workOf}
-use Rattle.solver.specs.Demand.{Call, work, pause, resume, afterWork, afterResume, afterCall, run, Each, Fair, counted, allowed, summed, WorkAnswers, Answers}
+use Rattle.solver.specs.Demand.{Call, work, pause, resume, afterWork, afterResume, afterCall, run, Each, Fair, counted, allowed, summed, WorkAnswers, ResumeAnswers, Answers}
 use Rattle.solver.specs.declared.Stage.{Stage}
 use Rattle.solver.specs.declared.Job.{Job}
 use Rattle.solver.specs.declared.Checkpoint.{Checkpoint}
@@ -61,6 +61,15 @@ resumed-same t s f fair = go (checkpointFits t) refl
     go true e =
         ap (λ (j : Job). record { job = j; table = s .table; board = s .board }) (ap jobOf (paused-numbers (s .job) t (fair e) .1) ∙ job-back (s .job) f)
     go false e = refl
+
+resume-answers : (t : Checkpoint) (s : State) → jobFits (s .job) ≡ true → (checkpointFits t ≡ true → pauseRule (s .job) ≡ gives (checkpointSays t))
+    → ResumeAnswers t s
+unfolding resumeRule
+resume-answers t s f fair = record {
+  passes = λ e. rw e (sym (fair e) ∙ pausable (s .job) f .pauses);
+  turned = λ e. rw e;
+  same = resumed-same t s f fair;
+}
 
 -- ---- a list of calls over a machine that lasts `long` units and then says `final`
 module _ {w h : ℕ} (z : Sized w h) (g : List ℕ) (v₀ : Run) (long : ℕ) (final : Answer) (lasts : Lasts (machine w h g) v₀ long)
@@ -135,7 +144,7 @@ module _ {w h : ℕ} (z : Sized w h) (g : List ℕ) (v₀ : Run) (long : ℕ) (f
   called pause m s R f = record { reached = rw (add-zero m) R; answers = pausable (s .job) (reached-fits R) }
   called (resume t) m s R f =
       let e = resumed-same t s (reached-fits R) f in
-      record { reached = rw (add-zero m, e) R; answers = e }
+      record { reached = rw (add-zero m, e) R; answers = resume-answers t s (reached-fits R) f }
 
   pub record Listed (m : ℕ) (cs : List Call) (s : State) : Type 0 where
     pub reached : Reached (m + summed cs s) (run cs s)
@@ -182,7 +191,7 @@ module _ (g : List ℕ) (s : State) (fits : jobFits (s .job) ≡ true)
   waits pause f = record { state = refl; sum = refl; answers = pausable (s .job) fits }
   waits (resume t) f =
       let e = resumed-same t s fits f in
-      record { state = e; sum = refl; answers = e }
+      record { state = e; sum = refl; answers = resume-answers t s fits f }
 
   pub record Idle (cs : List Call) : Type 0 where
     pub state : run cs s ≡ s

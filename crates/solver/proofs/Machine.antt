@@ -1,97 +1,36 @@
 -- A job with its lent memory is a machine of row elimination: a unit of a job that fits is a unit of the machine, and the next job fits.
 -- Assumes nothing.
-use mathlib.Core.Path.{_≡_, refl, sym, _∙_, ap, ap₂, subst, fun-ext}
+use mathlib.Core.Path.{_≡_, refl, sym, _∙_, ap, ap₂, subst}
 use mathlib.Core.Bool.{Bool, true, false, cond}
 use mathlib.Core.List.{List}
-use mathlib.Core.Option.{Option}
-use Prim.Native.Nat.{ℕ, zero, suc, _+_, _*_, _-_, _/_, _%_, _^_, _≤_, _<_}
-use native.Mathlib.Nat.{add-comm, div-add-mod'}
+use Prim.Native.Nat.{ℕ, zero, suc, _+_, _*_, _-_, _^_, _≤_, _<_}
+use native.Mathlib.Nat.{add-comm}
 use native.Mathlib.Numerals.{add-one}
 use native.Mathlib.Omega.{arith}
 use borrow.Author.Tests.{ltb-true, ltb-false, ne-eqb}
-use lib.Dec.{ltb, eqb}
+use lib.Dec.{ltb}
 use lib.Pow.{pow-pos}
-use lib.ListN.{getD, set}
+use lib.ListN.{set}
 use Rattle.board.specs.Boards.{Sized}
-use Rattle.elimination.specs.Candidates.{Choice, nothing, chosen, Comparison, Found, noneFound, bestFound}
-use Rattle.elimination.specs.Kind.{choose, entry, offer}
-use Rattle.elimination.specs.Table.{reads, fillEntry}
-use Rattle.elimination.specs.Filling.{rightAtUnit, entryAtUnit}
+use Rattle.elimination.specs.Candidates.{Choice, nothing, chosen}
+use Rattle.elimination.specs.Table.{fillEntry}
 use Rattle.elimination.specs.Filling as Filling
 use Rattle.elimination.specs.Task.{row}
 use Rattle.elimination.specs.Machine.{Machine}
 use Rattle.elimination.specs.Job.{Mark, running, finished, infeasible, ended, Setup, takeRow, unit}
 use Rattle.elimination.specs.Job as Elimination
 use Rattle.elimination.specs.FillThenChoose.{plan, fillThenChoose}
-use Rattle.elimination.proofs.Candidates.{scan-finds-best}
-use Rattle.elimination.proofs.Kind.{choose-scan}
-use Rattle.elimination.proofs.Filling.{right-at-unit-entry}
 use Rattle.elimination.proofs.Job.{unit-row}
 use Rattle.elimination.proofs.FillThenChoose.{plan-fill, plan-row}
 use Rattle.solver.specs.Rows.{live, written}
-use Rattle.solver.specs.ScoreTable.{placeOf, readsOf}
 use Rattle.solver.specs.Jobs.{tableSize, aboveOf, lastOf, liveOf, jobFits}
-use Rattle.solver.specs.Units.{State, Step, next, spoiled, unitPlace, unitEntry, filledTo, rowChoice, chosenTo, chooseStep, unitOf}
-use Rattle.solver.specs.Demand.{rightUnit}
+use Rattle.solver.specs.Units.{State, Step, next, spoiled, unitPlace, unitEntry, rowChoice, chosenTo, chooseStep, unitOf}
 use Rattle.solver.specs.declared.Stage.{Stage}
-use Rattle.solver.proofs.Powers.{four-two}
-use Rattle.solver.proofs.Fits.{RowsFit, Choosing, Fits, jobAt, fits-of, fits-at}
+use Rattle.solver.proofs.Fits.{RowsFit, Choosing, Fits, jobAt, fits-of}
 use Rattle.solver.proofs.RowLaws.{live-le}
-use Rattle.solver.proofs.Endings.{kind, kind-laws}
+use Rattle.solver.proofs.Endings.{kind}
 use Rattle.solver.proofs.Optimum.{putRow}
-
--- ---- places, numbers and choices are row elimination's
-abbrev layer : ℕ → ℕ
-layer w = 2 ^ w * 2 ^ w
-
-pub table-four : (w h : ℕ) → tableSize w h ≡ h * (2 ^ w * 2 ^ w)
-unfolding tableSize
-table-four w h = ap (λ (q : ℕ). h * q) (four-two w)
-
-pub place-same : (w h u : ℕ) → unitPlace w h u ≡ Filling.place h (2 ^ w * 2 ^ w) u
-unfolding unitPlace placeOf Filling.place
-place-same w h u =
-    let j = u % layer w in
-    let e : h - u / layer w - 1 ≡ h - 1 - u / layer w = omega arith in
-    let d : j / 2 ^ w * 2 ^ w + j % 2 ^ w ≡ j = div-add-mod' j (2 ^ w) in
-    rw (four-two w, e) (omega arith)
-
-module _ (w h : ℕ) (g : List ℕ) where
-  pub right-same : (u : ℕ) → rightUnit w h g u ≡ rightAtUnit (kind w h g) u
-  unfolding rightUnit
-  right-same u = rw (four-two w) (sym (right-at-unit-entry (kind w h g) u))
-
-  -- entries (r + 1, b, c)
-  pub reads-same : (t : List ℕ) (r b : ℕ) → readsOf w t (r + 1) b ≡ reads (kind w h g) t (r * (2 ^ w * 2 ^ w)) b
-  unfolding reads placeOf
-  reads-same t r b = fun-ext (λ c. let e : r + 1 - 1 ≡ r = omega arith in rw (four-two w, e) (ap (λ (p : ℕ). getD t p 0) (omega arith)))
-
-  entry-same : (t : List ℕ) (u : ℕ) → unitEntry w h g t u ≡ entryAtUnit (kind w h g) h u t
-  unfolding unitEntry
-  entry-same t u =
-      rw (four-two w)
-      (ap (entry (kind w h g) (u / layer w) (u % layer w / 2 ^ w) (u % layer w % 2 ^ w)) (reads-same t (h - u / layer w) (u % layer w % 2 ^ w)))
-
-  choice-same : (t : List ℕ) (r a b : ℕ) → rowChoice w h g t r a b ≡ choose (kind w h g) (h - suc r) a b (reads (kind w h g) t (r * (2 ^ w * 2 ^ w)) b)
-  unfolding rowChoice
-  choice-same t r a b = ap (choose (kind w h g) (h - suc r) a b) (reads-same t r b)
-
--- a row that is chosen is one
-abbrev pub RowBelow : ℕ → Choice ℕ → Type 0
-RowBelow m nothing = Unit {0}
-RowBelow m (chosen c n) = c < m
-
-found-lt : {K : Comparison ℕ} {offered : ℕ → Option ℕ} {m : ℕ} {o : Choice ℕ} → Found K offered m o → RowBelow m o
-found-lt (noneFound f) = tt
-found-lt (bestFound r y B) = B .inside
-
-pub choice-lt : {w h : ℕ} → Sized w h → (g t : List ℕ) (r a b : ℕ) → RowBelow (2 ^ w) (rowChoice w h g t r a b)
-unfolding rowChoice
-choice-lt {w} {h} z g t r a b =
-    let L = kind-laws w h g z in
-    let read = readsOf w t (r + 1) b in
-    subst (RowBelow (2 ^ w)) (sym (choose-scan (kind w h g) (h - suc r) a b read))
-    (found-lt (scan-finds-best (kind w h g .comparison) (L .ordered) (L .merge-tied) (offer (kind w h g) (h - suc r) a b read) (2 ^ w)))
+use Rattle.solver.proofs.TableLaws.{table-four, place-same, entry-same, choice-same, RowBelow, choice-lt}
 
 -- ---- the machine
 abbrev pub markIn : Stage → Mark

@@ -2,7 +2,7 @@
 -- Assumes nothing.
 use mathlib.Core.Path.{_≡_, refl, sym, _∙_, ap, subst}
 use mathlib.Core.List.{List}
-use mathlib.Core.Logic.{_⊎_, ⊎-elim}
+use mathlib.Core.Logic.{⊎-elim}
 use Prim.Native.Nat.{ℕ, zero, suc, _+_, _*_, _-_, _^_, _≤_, _<_, min}
 use native.Mathlib.Nat.{add-zero, mul-le-mul-right, le-trans}
 use native.Mathlib.Omega.{arith}
@@ -22,7 +22,8 @@ use Rattle.solver.specs.Demand.{Filled}
 use Rattle.solver.proofs.Writing.{written-length}
 use Rattle.solver.proofs.Endings.{kind}
 use Rattle.solver.proofs.Optimum.{putRow, put-before, put-after}
-use Rattle.solver.proofs.Machine.{place-same, right-same, setup, machine}
+use Rattle.solver.proofs.TableLaws.{place-same, right-same}
+use Rattle.solver.proofs.Machine.{setup, machine}
 
 -- a state of row elimination's machine
 abbrev pub Run : Type 0

@@ -1,7 +1,7 @@
 -- The board of the rows that row elimination chooses is the optimal board, wherever they are written.
 -- Assumes nothing.
 use mathlib.Core.Path.{_≡_, refl, sym, _∙_, ap, ap₂, subst}
-use mathlib.Core.Bool.{Bool, true, false, cond, _&&_, _||_, true≢false}
+use mathlib.Core.Bool.{Bool, true, false, _&&_, _||_, true≢false}
 use mathlib.Core.List.{List, [], _∷_}
 use mathlib.Core.Logic.{_⊎_, inl, inr, ⊎-elim}
 use Prim.Native.Nat.{ℕ, zero, suc, _+_, _*_, _-_, _^_, _≤_, _<_}
@@ -10,19 +10,17 @@ use native.Mathlib.Omega.{arith}
 use borrow.Author.Tests.{ltb-true, ltb-false, eqb-true, eqb-false}
 use lib.Dec.{ltb, eqb}
 use lib.ListN.{length, getD, replicate, length-replicate}
-use Rattle.board.specs.Boards.{among, Sized, Board}
-use Rattle.elimination.specs.Order.{rowsBefore, NoBetter, isWorse, isTied}
+use Rattle.board.specs.Boards.{Sized, Board}
+use Rattle.elimination.specs.Order.{rowsBefore, isWorse, isTied}
 use Rattle.elimination.specs.Candidates.{NoBetterRows}
 use Rattle.elimination.specs.Kind.{Kind}
 use Rattle.elimination.specs.Endings.{Ending, total}
 use Rattle.elimination.specs.Endings as Endings
 use Rattle.elimination.specs.Completion.{writeRows}
 use Rattle.elimination.proofs.Numbers.{lt-or-ge}
-use Rattle.elimination.proofs.Order.{rows-before-cons}
 use Rattle.elimination.proofs.Sums.{tied-equal}
 use Rattle.elimination.proofs.Endings.{ending-length}
-use Rattle.elimination.proofs.Completion.{write-rows-none, write-rows-more}
-use Rattle.life.specs.Rows.{rowNumber, rowOf, digitIn}
+use Rattle.life.specs.Rows.{rowOf}
 use Rattle.solver.specs.Grid.{Solution, population, Precedes, Optimal}
 use Rattle.solver.specs.Rows.{written}
 use Rattle.solver.specs.Theorems.{nextRows, allRows}

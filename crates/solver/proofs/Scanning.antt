@@ -1,6 +1,6 @@
 -- Laws of the search for the best row: what a candidate offers, what the loop holds after the candidates below c, and what is found at its end.
 -- Assumes nothing.
-use mathlib.Core.Path.{_≡_, refl, _∙_, sym, ap, subst}
+use mathlib.Core.Path.{_≡_, refl, _∙_, sym, ap}
 use mathlib.Core.Bool.{Bool, true, false, _&&_}
 use mathlib.Core.List.{List}
 use mathlib.Core.Option.{Option, none, some}
@@ -9,13 +9,13 @@ use native.Mathlib.Nat.{add-zero}
 use native.Mathlib.Numerals.{add-one}
 use native.Mathlib.Omega.{arith}
 use borrow.Author.Tests.{lt-ltb, le-ltb, le-leb, lt-leb, leb-true}
-use lib.Dec.{ltb, leb}
+use lib.Dec.{ltb}
 use Rattle.board.proofs.Search.{all-false}
-use Rattle.elimination.specs.Candidates.{Choice, nothing, chosen, scan, against, BestCandidate, noneFound, bestFound}
+use Rattle.elimination.specs.Candidates.{Choice, nothing, chosen, scan, against, noneFound, bestFound}
 use Rattle.elimination.specs.Candidates as Candidates
 use Rattle.elimination.specs.Kind.{Kind, offer, offerIf, choose}
 use Rattle.elimination.proofs.Candidates.{scan-none, scan-more, scan-finds-best}
-use Rattle.elimination.proofs.Kind.{offer-some, some-offer, choose-scan}
+use Rattle.elimination.proofs.Kind.{offer-some, choose-scan}
 use Rattle.elimination.proofs.Order.{tied-refl}
 use Rattle.elimination.proofs.Sums.{sum-worse-ordered, tied-equal}
 use Rattle.life.specs.Rows.{becomes, stepsTo, agree}

@@ -1,7 +1,7 @@
 -- One unit as the code does it, way by way, and a call's units one by one.
 -- Assumes nothing.
-use mathlib.Core.Path.{_≡_, refl, sym, _∙_, ap, subst}
-use mathlib.Core.Bool.{true, false, true≢false}
+use mathlib.Core.Path.{_≡_, refl, sym, subst}
+use mathlib.Core.Bool.{true}
 use mathlib.Core.List.{List, []}
 use Prim.Native.Nat.{ℕ, zero, suc, _+_, _*_, _-_, _<_, _≤_}
 use native.Mathlib.Omega.{arith}
@@ -11,13 +11,14 @@ use Rattle.board.specs.Answers.{Answer, refuses}
 use Rattle.elimination.specs.Candidates.{nothing, chosen}
 use Rattle.solver.specs.Rows.{live, written}
 use Rattle.solver.specs.Jobs.{tableSize, stageSays}
-use Rattle.solver.specs.Units.{State, next, spoiled, unitPlace, unitEntry, filledTo, rowChoice, chosenTo, stageStep, unitOf}
+use Rattle.solver.specs.Units.{next, unitPlace, unitEntry, filledTo, rowChoice, chosenTo, unitOf}
 use Rattle.solver.specs.Calls.{worksOn}
 use Rattle.solver.specs.Inner.{hasEnded, lentState, stepOf, Lent, Moves, Chosen}
 use Rattle.solver.specs.declared.Stage.{Stage}
 use Rattle.solver.specs.declared.Job.{Job}
 use Rattle.solver.specs.declared.choosing.Stepped.{Stepped}
 use Rattle.solver.proofs.UnitLaws.{unit-lent}
+use Rattle.solver.proofs.WorkLaws.{ended-stays, works-none, works-next, works-spoiled, works-ended}
 
 next-not-spoiled : {j : Job} {A : Type 0} → Stepped.Next j ≡ Stepped.Spoiled → A
 next-not-spoiled e = absurd (let z : _≡_ {A = ℕ} 0 1 = cc in omega arith)
@@ -64,63 +65,36 @@ module _ (j : Job) (g t β : List ℕ) where
   moves-choose e r β′ C = record { step = rw e (C .step); same = λ x. (refl, C .same x) }
 
   -- an ended job stays
-  ended-stays : hasEnded (j .stage) ≡ true → unitOf g (lentState j t β) ≡ next (lentState j t β)
-  unfolding unitOf
-  ended-stays o = go (j .stage) refl o
-    where
-      go : (x : Stage) → j .stage ≡ x → hasEnded x ≡ true
-          → stageStep g (j .width) (j .height) (j .units) x t β
-          ≡ next (lentState (record { width = j .width; height = j .height; units = j .units; stage = j .stage }) t β)
-      go Stage.Filling e o = absurd (true≢false (sym o))
-      go (Stage.Choosing a l n) e o = absurd (true≢false (sym o))
-      go (Stage.Finished a l n) e o = rw e
-      go Stage.Infeasible e o = rw e
-
   pub moves-ended : hasEnded (j .stage) ≡ true → Moves j g t β (Stepped.Next j) t β
-  moves-ended o = record { step = sym (ended-stays o); same = next-not-spoiled }
+  moves-ended o = record { step = sym (ended-stays g (lentState j t β) o); same = next-not-spoiled }
 
 -- ---- a call's units, one by one
 module _ (g : List ℕ) where
-  works-none : (s : State) → worksOn g 0 s ≡ record { answer = stageSays (s .job .stage); state = s }
-  unfolding worksOn
-  works-none s = refl
-
-  works-next : (n : ℕ) → (n ≡ 0 → ⊥) → (s s′ : State) → next s′ ≡ unitOf g s → worksOn g (n - 1) s′ ≡ worksOn g n s
-  unfolding worksOn
-  works-next zero l s s′ e = absurd (l refl)
-  works-next (suc n) l s s′ e =
-      let k : suc n - 1 ≡ n = omega arith in
-      rw (k, ← e)
-
-  works-spoiled : (n : ℕ) → (n ≡ 0 → ⊥) → (s : State) → spoiled ≡ unitOf g s → record { answer = refuses 9 []; state = s } ≡ worksOn g n s
-  unfolding worksOn
-  works-spoiled zero l s e = absurd (l refl)
-  works-spoiled (suc n) l s e = rw (← e)
-
-  works-stays : (n : ℕ) (j : Job) (t β : List ℕ) → hasEnded (j .stage) ≡ true → worksOn g n (lentState j t β) ≡ record { answer = stageSays (j .stage); state = lentState j t β }
-  unfolding worksOn
-  works-stays zero j t β o = refl
-  works-stays (suc n) j t β o = rw (ended-stays j g t β o) (works-stays n j t β o)
-
   -- a unit that is done, and one that can't be
   module _ (j : Job) (t β : List ℕ) (r : Stepped) (t′ β′ : List ℕ) (M : Moves j g t β r t′ β′) where
+    moved : (j′ : Job) → r ≡ Stepped.Next j′ → unitOf g (lentState j t β) ≡ next (lentState j′ t′ β′)
+    moved j′ e = sym (subst (λ (o : Stepped). stepOf o t′ β′ ≡ unitOf g (lentState j t β)) e (M .step))
+
     pub works-moved : (j′ : Job) → r ≡ Stepped.Next j′ → (n : ℕ) → (n ≡ 0 → ⊥) → worksOn g (n - 1) (lentState j′ t′ β′) ≡ worksOn g n (lentState j t β)
-    works-moved j′ e n l =
-        works-next n l (lentState j t β) (lentState j′ t′ β′) (subst (λ (o : Stepped). stepOf o t′ β′ ≡ unitOf g (lentState j t β)) e (M .step))
+    works-moved j′ e zero l = absurd (l refl)
+    works-moved j′ e (suc n) l =
+        let k : suc n - 1 ≡ n = omega arith in
+        rw k (sym (works-next g n (lentState j t β) (lentState j′ t′ β′) (moved j′ e)))
 
     pub works-turned : r ≡ Stepped.Spoiled → (n : ℕ) → (n ≡ 0 → ⊥) → record { answer = refuses 9 []; state = lentState j t′ β′ } ≡ worksOn g n (lentState j t β)
-    works-turned e n l =
+    works-turned e zero l = absurd (l refl)
+    works-turned e (suc n) l =
         let x = M .same e in
-        rw (x .0, x .1) (works-spoiled n l (lentState j t β) (subst (λ (o : Stepped). stepOf o t′ β′ ≡ unitOf g (lentState j t β)) e (M .step)))
+        rw (x .0, x .1) (sym (works-spoiled g n (lentState j t β) (sym (subst (λ (o : Stepped). stepOf o t′ β′ ≡ unitOf g (lentState j t β)) e (M .step)))))
 
     -- after a unit the checks would still pass
     pub lent-moved : (j′ : Job) → r ≡ Stepped.Next j′ → Lent j g t β → Lent j′ g t′ β′
-    lent-moved j′ e L = unit-lent g (lentState j t β) (lentState j′ t′ β′) L (sym (subst (λ (o : Stepped). stepOf o t′ β′ ≡ unitOf g (lentState j t β)) e (M .step)))
+    lent-moved j′ e L = unit-lent g (lentState j t β) (lentState j′ t′ β′) L (moved j′ e)
 
   -- the end of a call
   pub works-spent : (j : Job) (t β : List ℕ) (x : Answer) → x ≡ stageSays (j .stage) → (n : ℕ) → n ≡ 0 → record { answer = x; state = lentState j t β } ≡ worksOn g n (lentState j t β)
-  works-spent j t β x e n z = rw (z, e) (sym (works-none (lentState j t β)))
+  works-spent j t β x e n z = rw (z, e) (sym (works-none g (lentState j t β)))
 
-  pub works-ended : (j : Job) (t β : List ℕ) (x : Answer) → x ≡ stageSays (j .stage) → (n : ℕ) → hasEnded (j .stage) ≡ true
+  pub works-over : (j : Job) (t β : List ℕ) (x : Answer) → x ≡ stageSays (j .stage) → (n : ℕ) → hasEnded (j .stage) ≡ true
       → record { answer = x; state = lentState j t β } ≡ worksOn g n (lentState j t β)
-  works-ended j t β x e n o = rw e (sym (works-stays n j t β o))
+  works-over j t β x e n o = rw e (sym (works-ended g n (lentState j t β) o))

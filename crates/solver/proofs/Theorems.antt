@@ -9,7 +9,7 @@ use borrow.Author.Tests.{leb-true, ltb-true}
 use Rattle.board.specs.Boards.{Sized}
 use Rattle.elimination.specs.Order.{isWorse, isTied}
 use Rattle.elimination.specs.Candidates.{NoBetterRows}
-use Rattle.elimination.specs.Kind.{entry, choose, rightEntry, rightRows, worthOf}
+use Rattle.elimination.specs.Kind.{entry, rightEntry, rightRows, worthOf}
 use Rattle.elimination.specs.Endings.{total, Solved, noEnding, anEnding}
 use Rattle.elimination.proofs.Kind.{entry-more, right-entry-last, right-entry-more, choose-ext}
 use Rattle.elimination.proofs.Sums.{tied-equal}
@@ -17,7 +17,7 @@ use Rattle.elimination.proofs.Endings.{total-none, total-more, elimination-solv
 use Rattle.solver.specs.Rows.{live}
 use Rattle.solver.specs.ScoreTable.{readsOf}
 use Rattle.solver.specs.Theorems as Theorems
-use Rattle.solver.specs.Theorems.{allRows, GridEnding, EndingsAreSolutions, BestOrNone, best, none, ChoiceIsOptimal, liveInRows, Greatest, greatest, RightLayer, EntryRight, EntriesRight}
+use Rattle.solver.specs.Theorems.{allRows, EndingsAreSolutions, BestOrNone, best, none, ChoiceIsOptimal, liveInRows, Greatest, greatest, RightLayer, EntriesRight}
 use Rattle.solver.proofs.Endings.{kind, kind-laws, solution-ends, ends-solution}
 use Rattle.solver.proofs.Optimum.{boardOf, is-rows, is-score, optimal}
 

@@ -29,10 +29,11 @@ use Rattle.solver.specs.declared.Job.{Job}
 use Rattle.solver.proofs.Fits.{fits-of, pausable}
 use Rattle.solver.proofs.Endings.{kind, kind-laws, solution-ends}
 use Rattle.solver.proofs.Optimum.{putRow, boardOf, optimal}
-use Rattle.solver.proofs.Machine.{table-four, setup, at}
+use Rattle.solver.proofs.TableLaws.{table-four}
+use Rattle.solver.proofs.Machine.{setup, at}
 use Rattle.solver.proofs.Memory.{entries}
 use Rattle.solver.proofs.Lists.{idle}
-use Rattle.solver.proofs.ListsServed.{course, units-split, table-pos, board-served, none-served}
+use Rattle.solver.proofs.Serving.{course, units-split, table-pos, board-served, none-served}
 use Rattle.solver.proofs.Theorems.{choice-is-optimal}
 
 -- the opened job with its memory

@@ -1,21 +1,23 @@
 -- A unit of a job that fits leaves a job that fits, of the same width and height, and memory of the same lengths: what a working call's checks
 -- have shown holds before each of its units.
 -- Assumes nothing.
-use mathlib.Core.Path.{_≡_, refl, sym, _∙_, subst}
+use mathlib.Core.Path.{_≡_, refl, _∙_, subst}
 use mathlib.Core.Bool.{Bool, true, false, cond}
 use mathlib.Core.List.{List}
 use Prim.Native.Nat.{ℕ, _+_, _*_, _-_, _≤_}
+use native.Mathlib.Nat.{mul-le-mul}
+use native.Mathlib.Omega.{arith}
 use lib.Dec.{eqb}
 use lib.ListN.{length, length-set}
 use Rattle.elimination.specs.Candidates.{Choice, nothing, chosen}
 use Rattle.solver.specs.Jobs.{tableSize, jobFits}
 use Rattle.solver.specs.Units.{State, Step, next, spoiled, unitPlace, unitEntry, rowChoice, chooseStep, stageStep, unitOf}
-use Rattle.solver.specs.Inner.{Lent}
+use Rattle.solver.specs.Inner.{Lent, Fills, Chooses}
 use Rattle.solver.specs.declared.Stage.{Stage}
 use Rattle.solver.specs.declared.Job.{Job}
-use Rattle.solver.proofs.Fits.{jobAt, fits-of, fits-at}
+use Rattle.solver.proofs.Fits.{Choosing, jobAt, fits-at}
 use Rattle.solver.proofs.Writing.{written-length}
-use Rattle.solver.proofs.Machine.{Here, Steps, unit-law, here-fits}
+use Rattle.solver.proofs.Machine.{Steps, unit-law, here-fits}
 
 -- ---- the job
 -- a next job that fits, of the same grid
@@ -70,4 +72,28 @@ unit-lent g s s′ L e =
       marks = rw (F .width, F .height) (L .marks);
       cells = rw (F .width, F .height) (N .board ∙ L .cells);
       entries = rw (F .width, F .height, N .table) (L .entries);
+    }
+
+-- ---- what they have shown, by the job's stage
+pub lent-fills : {j : Job} {g t β : List ℕ} → Lent j g t β → j .stage ≡ Stage.Filling → Fills (j .width) (j .height) (j .units) g t
+lent-fills {j} L e =
+    let T = fits-at j (L .taken) in
+    record { narrow = T .size .narrow; low = T .size .low; early = rw e at (T .stage); marks = L .marks; entries = L .entries }
+
+pub lent-chooses : {j : Job} {g t β : List ℕ} {above last live : ℕ} → Lent j g t β → j .stage ≡ Stage.Choosing above last live → Chooses j above last live g t β
+lent-chooses {j} {above = above} {last = last} {live = live} L e =
+    let T = fits-at j (L .taken) in
+    let F : Choosing (j .width) (j .height) (j .units) above last live = rw e at (T .stage) in
+    let k : j .units - tableSize (j .width) (j .height) ≤ 60 = omega (arith, F .until, F .from, T .size .low) in
+    record {
+      narrow = T .size .narrow;
+      low = T .size .low;
+      over = F .over;
+      below = F .below;
+      from = F .from;
+      until = F .until;
+      few = omega (arith, F .rows .few, mul-le-mul (T .size .narrow) k);
+      marks = L .marks;
+      cells = L .cells;
+      entries = L .entries;
     }

@@ -1,7 +1,7 @@
 -- THE THIRD DEMAND: document 01, "The third demand is a single claim about the whole list of calls".
 -- Assumes nothing.
 use mathlib.Core.Path.{_≡_}
-use mathlib.Core.Bool.{true}
+use mathlib.Core.Bool.{true, false}
 use mathlib.Core.List.{List, [], _∷_}
 use Prim.Native.Nat.{ℕ, _+_, _-_, _*_, _≤_, _<_, min}
 use lib.ListN.{length, getD}
@@ -90,15 +90,21 @@ pub record Pausable (j : Job) : Type 0 where
   pub resumes : resumeRule (numbersOf j) ≡ gives (jobSays j)
   pub back : jobOf (numbersOf j) ≡ j
 
--- a pause of a job that can be paused, and a resumption, leave everything as it is
+-- A resumption that passes hands this job out again; one that is turned away answers 7 and hands out none. Either leaves everything as it is.
+pub record ResumeAnswers (t : Checkpoint) (s : State) : Type 0 where
+  pub passes : checkpointFits t ≡ true → resumeRule t ≡ gives (jobSays (s .job))
+  pub turned : checkpointFits t ≡ false → resumeRule t ≡ refuses 7 []
+  pub same : afterCall (resume t) s ≡ s
+
 abbrev pub Answers : ℕ → Answer → Call → State → Type 0
 Answers long final (work givens table board allowance) s =
     WorkAnswers long final (workCheck (s .job) givens table board) (record { job = s .job; table = table; board = board }) (workOf (s .job) givens table board allowance)
 Answers long final pause s = Pausable (s .job)
-Answers long final (resume t) s = afterCall (resume t) s ≡ s
+Answers long final (resume t) s = ResumeAnswers t s
 
 -- ---- what is done
--- the right number for unit u of filling: entry (h - rowsAfter, rowA, rowB) by the rule over right entries
+-- the right number for unit u of filling: entry (h - rowsAfter, rowA, rowB) by the rule over right entries. `EntriesRight` of `Theorems` says what
+-- a right entry means
 unfoldable pub rightUnit : ℕ → ℕ → List ℕ → ℕ → ℕ
 rightUnit w h givens u = rightEntry (kindOf conway w h givens) (rowsAfter w u) (rowA w u) (rowB w u)
 

@@ -1,7 +1,7 @@
 -- Document 01, "The score table" and the choice of a row: row elimination over the rows of a grid. The rules of an entry and of a choice over
 -- whatever numbers the table holds are `entry` and `choose` of crate `elimination`; here stand what they are asked of, and where entries lie.
 -- Assumes nothing.
-use mathlib.Core.Bool.{Bool, false, _&&_}
+use mathlib.Core.Bool.{false, _&&_}
 use mathlib.Core.List.{List}
 use Prim.Native.Nat.{ℕ, suc, _+_, _*_, _-_, _^_}
 use lib.ListN.{getD}

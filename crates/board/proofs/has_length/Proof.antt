@@ -1,6 +1,6 @@
 -- `board::has_length` meets its contract: a number is w × h exactly when w divides it h times and leaves nothing.
 -- Assumes nothing.
-use mathlib.Core.Path.{_≡_, refl, sym, _∙_}
+use mathlib.Core.Path.{_≡_, refl, sym}
 use mathlib.Core.Bool.{Bool, true, false}
 use Prim.Native.Nat.{ℕ, _*_, _/_, _%_, _<_}
 use native.Mathlib.Nat.{zero-mul, mul-mod-right, mul-div-right, div-add-mod}

@@ -1,6 +1,6 @@
 -- `solver::Job::work` meets its contract: its checks, and then its units.
 -- Assumes nothing.
-use mathlib.Core.Path.{_≡_, sym, _∙_, ap}
+use mathlib.Core.Path.{sym, _∙_, ap}
 use Rattle.board.proofs.Answers.{let-through}
 use Rattle.board.specs.Answers.{checkSays}
 use Rattle.solver.specs.Calls.{workOf}

@@ -2,10 +2,10 @@
 -- columns: the columns passed keep their state. The measures: the rows left, the columns left. A row that fails in column j is skipped with all
 -- rows that share its cells up to column j + 1, which fail there too.
 -- Assumes nothing.
-use mathlib.Core.Path.{_≡_, refl, _∙_, sym}
+use mathlib.Core.Path.{_≡_, _∙_, sym}
 use mathlib.Core.Bool.{true, false}
-use mathlib.Core.Option.{none}
-use Prim.Native.Nat.{ℕ, suc, _+_, _-_, _^_, _≤_, _<_}
+use mathlib.Core.Option.{Option, none, some}
+use Prim.Native.Nat.{ℕ, _+_, _-_, _^_, _≤_, _<_}
 use native.Mathlib.Omega.{arith}
 use borrow.Author.Needs.{needs}
 use borrow.Author.Tests.{not-true, not-false}
@@ -42,7 +42,7 @@ Turn = tie.Else1 Inv-loop μ-loop Inv-rows μ-rows
 abbrev tried : Turn → ℕ
 tried t = t .before .rows .c
 
-abbrev Offer : Turn → ℕ → mathlib.Core.Option.Option ℕ
+abbrev Offer : Turn → ℕ → Option ℕ
 Offer t =
     let g = t .before .before .before .before .before .args in
     offers (entryOf (g .next .now)) (g .w) (g .givens .now) (g .at) (g .a) (g .b) (readsFrom (g .table .now) (g .first))
@@ -88,7 +88,7 @@ agreed c =
 sum : (c : tie.After-live-cells Inv-loop μ-loop Inv-rows μ-rows) →
     let t = c .before .before .before .before .before .before .before in
     let g = t .before .before .before .before .before .args in
-    Offer t (tried t) ≡ mathlib.Core.Option.some (c .live-cells .result + getD (g .table .now) (g .first + tried t) 0)
+    Offer t (tried t) ≡ some (c .live-cells .result + getD (g .table .now) (g .first + tried t) 0)
 sum c =
     rw (c .live-cells .ensures .0)
     (offer-sum _ _ _ _ _ _ _ _ (agreed (c .before .before .before .before .before))

@@ -5,7 +5,6 @@ use mathlib.Core.Logic.{⊎-elim}
 use Prim.Native.Nat.{ℕ, _+_, _*_, _-_, _^_, _≤_, _<_}
 use native.Mathlib.Nat.{mul-le-mul}
 use native.Mathlib.Omega.{arith}
-use Rattle.elimination.specs.Candidates.{Choice}
 use Rattle.solver.specs.ScoreTable.{choiceOf}
 use Rattle.solver.specs.Jobs.{tableSize}
 use Rattle.solver.specs.Units.{rowChoice}

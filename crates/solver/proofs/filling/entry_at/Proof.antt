@@ -8,7 +8,6 @@ use borrow.Author.Tests.{not-true, not-false}
 use lib.Pow.{pow-pos}
 use Rattle.elimination.specs.Kind.{worthOf}
 use Rattle.solver.specs.ScoreTable.{choiceOf}
-use Rattle.solver.specs.Jobs.{tableSize}
 use Rattle.solver.specs.declared.best.Best.{Best}
 use Rattle.solver.proofs.Powers.{table-le}
 use Rattle.solver.proofs.Entries.{row-room, layer-room, row-a-lt, row-b-lt, after-lt, entry-apart, entry-open, entry-ends, entry-best}

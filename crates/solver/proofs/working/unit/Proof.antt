@@ -2,10 +2,10 @@
 -- Assumes nothing.
 use mathlib.Core.Logic.{⊎-elim}
 use native.Mathlib.Omega.{arith}
-use mathlib.Core.Path.{_≡_, ap}
-use Rattle.solver.specs.Inner.{Fills, hasEnded}
+use mathlib.Core.Path.{ap}
+use Rattle.solver.specs.Inner.{hasEnded}
 use Rattle.solver.proofs.Powers.{table-le}
-use Rattle.solver.proofs.Lending.{fills-of, chooses-of}
+use Rattle.solver.proofs.UnitLaws.{lent-fills, lent-chooses}
 use Rattle.solver.proofs.Steps.{filling-on, filling-over, moves-fill, moves-choose, moves-ended}
 use borrow.Author.Needs.{needs}
 use Rattle.solver.proofs.working.unit.Statement.{statement}
@@ -15,22 +15,22 @@ enum-told : tie.Need-enum-told
 enum-told c = search needs
 
 fill-requires : tie.Need-fill-requires
-fill-requires c κs = let s = c .before .before .before .before .before .before in (s .pre .0, fills-of (s .pre .1) (c .before .enum-told .given .1))
+fill-requires c κs = let s = c .before .before .before .before .before .before in (s .pre .0, lent-fills (s .pre .1) (c .before .enum-told .given .1))
 
 add-if1 : tie.Need-add-if1
-add-if1 c = let s = c .before .before .before .before .before .before .before .before .before in let f = fills-of (s .pre .1) (c .before .before .before .before .enum-told .given .1) in omega (arith, f .early, table-le (f .narrow) (f .low))
+add-if1 c = let s = c .before .before .before .before .before .before .before .before .before in let f = lent-fills (s .pre .1) (c .before .before .before .before .enum-told .given .1) in omega (arith, f .early, table-le (f .narrow) (f .low))
 
 table-size-requires : tie.Need-table-size-requires
-table-size-requires c κs = let s = c .before .before .before .before .before .before .before .before .before in let f = fills-of (s .pre .1) (c .before .before .before .before .enum-told .given .1) in (f .narrow, f .low)
+table-size-requires c κs = let s = c .before .before .before .before .before .before .before .before .before in let f = lent-fills (s .pre .1) (c .before .before .before .before .enum-told .given .1) in (f .narrow, f .low)
 
 add-t18 : tie.Need-add-t18
-add-t18 c = let s = c .before .before .before .before .before .before .before .before .before .before .before in let f = fills-of (s .pre .1) (c .before .before .before .before .before .before .enum-told .given .1) in omega (arith, f .early, table-le (f .narrow) (f .low))
+add-t18 c = let s = c .before .before .before .before .before .before .before .before .before .before .before in let f = lent-fills (s .pre .1) (c .before .before .before .before .before .before .enum-told .given .1) in omega (arith, f .early, table-le (f .narrow) (f .low))
 
 enum-known-stage : tie.Need-enum-known-stage
 enum-known-stage c = search needs
 
 choose-requires : tie.Need-choose-requires
-choose-requires c κs = let s = c .before .before .before .before .before .before .before .before in (s .pre .0, chooses-of (s .pre .1) (c .before .before .before .stage .given .1))
+choose-requires c κs = let s = c .before .before .before .before .before .before .before .before in (s .pre .0, lent-chooses (s .pre .1) (c .before .before .before .stage .given .1))
 
 enum-told-2 : tie.Need-enum-told-2
 enum-told-2 c = search needs

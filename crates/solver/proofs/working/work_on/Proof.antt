@@ -6,7 +6,7 @@ use mathlib.Core.Logic.{⊎-elim}
 use lib.ListN.{length}
 use Rattle.solver.specs.Calls.{worksOn}
 use Rattle.solver.specs.Inner.{Lent, lentState}
-use Rattle.solver.proofs.Steps.{works-moved, works-turned, works-spent, works-ended, lent-moved}
+use Rattle.solver.proofs.Steps.{works-moved, works-turned, works-spent, works-over, lent-moved}
 use borrow.Author.Needs.{needs}
 use Rattle.solver.proofs.working.work_on.Statement.{statement}
 use Rattle.solver.proofs.working.work_on.Tie as tie
@@ -78,7 +78,7 @@ same-length-4 c = search needs
 
 returns-2 : tie.Need-returns-2 Inv-loop μ-loop
 returns-2 c =
-    ⊎-elim (λ x. works-spent _ _ _ _ _ (c .status-of .ensures) _ (x .taken)) (λ x. works-ended _ _ _ _ _ (c .status-of .ensures) _ (sym (x .1 .ensures) ∙ x .2 .taken))
+    ⊎-elim (λ x. works-spent _ _ _ _ _ (c .status-of .ensures) _ (x .taken)) (λ x. works-over _ _ _ _ _ (c .status-of .ensures) _ (sym (x .1 .ensures) ∙ x .2 .taken))
     (c .before .loop-test .came)
     ∙ c .before .before .loop .inv .0
 

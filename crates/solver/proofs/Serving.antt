@@ -34,7 +34,8 @@ use Rattle.solver.proofs.Powers.{four-two}
 use Rattle.solver.proofs.Fits.{Fits, pausable}
 use Rattle.solver.proofs.Endings.{kind}
 use Rattle.solver.proofs.Optimum.{boardOf, into-same, is-population}
-use Rattle.solver.proofs.Machine.{table-four, setup, markIn, view, at, machine, Here}
+use Rattle.solver.proofs.TableLaws.{table-four}
+use Rattle.solver.proofs.Machine.{setup, markIn, view, at, machine, Here}
 use Rattle.solver.proofs.Memory.{Run, entries, first, after, filling, board-size, board-rest, board-rows, table-filled}
 use Rattle.solver.proofs.Lists.{Reached, reached-fits, reached-units, listed}
 

@@ -1,0 +1,53 @@
+-- A job run to its end in one call: what it answers and leaves, for every input.
+-- Assumes nothing.
+use mathlib.Core.Path.{_≡_}
+use mathlib.Core.List.{List}
+use Prim.Native.Nat.{ℕ}
+use lib.Dec.{leb}
+use lib.ListN.{length}
+use Rattle.board.specs.Answers.{Answer, refuses, passed, refusalSays, _then_, refuseUnless}
+use Rattle.board.specs.Boards.{Givens}
+use Rattle.board.specs.Checks.{sizeCheck, givensCheck, lengthCheck}
+use Rattle.solver.specs.Grid.{Solution, Optimal, population}
+use Rattle.solver.specs.Jobs.{tableSize, start, finished, infeasible}
+use Rattle.solver.specs.Demand.{Filled}
+use Rattle.solver.specs.declared.Job.{Job}
+use Rattle.runner.specs.declared.Solved.{Solved}
+
+-- the paper's number and values of each answer: those of a job that ended
+abbrev pub solvedSays : Solved → Answer
+solvedSays (Solved.Best score) = finished score
+solvedSays Solved.Infeasible = infeasible
+solvedSays (Solved.Refused r) = refusalSays r
+
+-- its checks: 1, 2, 3, 4 as opening, 5, 6 as working
+unfoldable pub memoryCheck : ℕ → ℕ → List ℕ → List ℕ → Answer
+memoryCheck w h table board = lengthCheck 5 w h board then refuseUnless (leb (tableSize w h) (length table)) 6
+
+unfoldable pub solveCheck : ℕ → ℕ → List ℕ → List ℕ → List ℕ → Answer
+solveCheck w h givens table board = sizeCheck w h then givensCheck w h givens then memoryCheck w h table board
+
+-- the board that is left is the wanted one, and the answer its score; or there is no still board that keeps the givens, the answer says so, and
+-- the board is unwritten
+pub data Ends (w h : ℕ) (givens board : List ℕ) (says : Answer) (board′ : List ℕ) : Type 0 where
+  best : Optimal w h givens board′ → says ≡ finished (population w h board′) → Ends w h givens board says board′
+  none : ((other : List ℕ) → Solution w h givens other → ⊥) → says ≡ infeasible → board′ ≡ board → Ends w h givens board says board′
+
+-- Turned away, the call answers its refusal and writes nothing. Otherwise it comes to the job's end, and the table holds the right entries, with
+-- what it held in every place past them.
+pub record Comes (check : Answer) (w h : ℕ) (givens table board : List ℕ) (says : Answer) (table′ board′ : List ℕ) : Type 0 where
+  pub turned : (n : ℕ) (values : List ℕ) → check ≡ refuses n values → (says ≡ refuses n values) × (table′ ≡ table) × (board′ ≡ board)
+  pub ended : check ≡ passed → Ends w h givens board says board′
+  pub filled : check ≡ passed → Filled w h givens (tableSize w h) table table′
+
+pub record Solves (w h : ℕ) (givens table board : List ℕ) (r : Solved) (table′ board′ : List ℕ) : Type 0 where
+  pub comes : Comes (solveCheck w h givens table board) w h givens table board (solvedSays r) table′ board′
+
+-- ---- the inner function
+-- an opened job and its givens
+pub record Ready (j : Job) (givens : List ℕ) : Type 0 where
+  pub fresh : j ≡ start (j .width) (j .height)
+  pub grid : Givens (j .width) (j .height) givens
+
+pub record Runs (j : Job) (givens table board : List ℕ) (r : Solved) (table′ board′ : List ℕ) : Type 0 where
+  pub comes : Comes (memoryCheck (j .width) (j .height) table board) (j .width) (j .height) givens table board (solvedSays r) table′ board′

@@ -1,0 +1,46 @@
+// Runs a job to its end in one call, for callers that don't pause.
+use board::Refusal;
+use solver::Job;
+use solver::Opened;
+use solver::Status;
+ghost use Rattle.runner.specs.Solving.{Solves, Runs, Ready};
+
+// The best board's score, or that no still board keeps the givens.
+pub enum Solved {
+    Best(usize),
+    Infeasible,
+    Refused(Refusal),
+}
+
+// The units that a working call is allowed.
+const ALLOWANCE: u32 = 1000;
+
+// Solves a grid of givens: leaves the best still board that keeps them, first in board order among the best, in `board`, over a table of h × 4^w
+// entries or more. Refusals 1, 2, 3, 4 as opening, then 5, 6 as working.
+pub fn solve(w: usize, h: usize, givens: &[u8], table: &mut [u16], board: &mut [u8]) -> Solved
+    ensures { λ r. ⌜ Solves w h (now (givens .entry)) (now (table .entry)) (now (board .entry)) r (now (table .exit)) (now (board .exit)) ⌝ }
+{
+    match solver::open(w, h, givens) {
+        Opened::Refused(r) => Solved::Refused(r),
+        Opened::Ready(job) => run(job, givens, table, board),
+    }
+}
+
+// Works an opened job until it ends.
+fn run(start: Job, givens: &[u8], table: &mut [u16], board: &mut [u8]) -> Solved
+    requires { ⌜ Ready start (now givens) ⌝ }
+    ensures { λ r. ⌜ Runs start (now (givens .entry)) (now (table .entry)) (now (board .entry)) r (now (table .exit)) (now (board .exit)) ⌝ }
+{
+    let mut job = start;
+    loop {
+        let worked = job.work(givens, table, board, ALLOWANCE);
+        job = worked.job;
+        let status = worked.status;
+        match status {
+            Status::Unfinished => {}
+            Status::Finished(score) => return Solved::Best(score),
+            Status::Infeasible => return Solved::Infeasible,
+            Status::Refused(r) => return Solved::Refused(r),
+        }
+    }
+}
