@@ -1,4 +1,4 @@
-// Lines of the test programs' reports, on standard output.
+// Lines on standard output, for the programs.
 use board::Check;
 use board::Refusal;
 

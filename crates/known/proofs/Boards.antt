@@ -1,0 +1,36 @@
+-- They hold, by computing.
+-- Assumes nothing.
+use mathlib.Core.Path.{refl}
+use Rattle.board.specs.Search.{firstNot, allBelow}
+use Rattle.board.specs.Sums.{total}
+use Rattle.board.specs.Checks.{sizeCheck, cellsCheck, givensCheck, boardCheck}
+use Rattle.elimination.specs.Candidates.{scan}
+use Rattle.elimination.specs.Kind.{choose, entry}
+use Rattle.life.specs.Rule.{conway}
+use Rattle.life.specs.Plane.{onPlane, around}
+use Rattle.life.specs.Rows.{cellOf, becomes, stepsTo}
+use Rattle.life.specs.Calls.{nextAt, keepsAt, judged, judgeRule}
+use Rattle.plaintext.specs.Lines.{linesOf}
+use Rattle.plaintext.specs.Reading as Reading
+use Rattle.solver.specs.Rows.{live, markKept, rowKept, written}
+use Rattle.solver.specs.ScoreTable.{placeOf}
+use Rattle.solver.specs.Jobs.{tableSize, unitsFit, rowsChosen, rowsFit, checkpointFits, jobFits, workCheck}
+use Rattle.solver.specs.Units.{unitPlace, unitEntry, rowChoice, unitOf}
+use Rattle.solver.specs.Calls.{worksOn, workOf}
+use Rattle.known.specs.Known.{solved, Known}
+
+pub known : Known
+unfolding firstNot allBelow total sizeCheck cellsCheck givensCheck boardCheck scan choose entry conway onPlane around cellOf becomes stepsTo nextAt keepsAt judged judgeRule linesOf Reading.judge Reading.judgeLines Reading.judged Reading.firstBad Reading.rowsOf Reading.widthOf Reading.sizeRule Reading.readRule live markKept rowKept written placeOf tableSize unitsFit rowsChosen rowsFit checkpointFits jobFits workCheck unitPlace unitEntry rowChoice unitOf worksOn workOf solved
+known = record {
+  m1 = refl;
+  m2 = refl;
+  m3 = refl;
+  m4 = refl;
+  m5 = refl;
+  m6 = refl;
+  m7 = refl;
+  m8 = refl;
+  m9 = (refl, refl, refl);
+  m10 = refl;
+  free3 = refl;
+}

@@ -1,0 +1,2 @@
+-- The known boards, proved.
+pub mod Boards

@@ -1,0 +1,11 @@
+-- The laws of this crate that belong to no one function, and the proofs of its theorems.
+pub mod Over
+pub mod Stops
+pub mod BoardRows
+pub mod Lines
+pub mod Scans
+pub mod Answers
+pub mod Cells
+pub mod Cutting
+pub mod Reading
+pub mod RoundTrip

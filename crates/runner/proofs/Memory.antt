@@ -1,0 +1,58 @@
+-- The checks of a working call over an opened job are those of its memory; and a call that passes them leaves a job of the same grid and memory
+-- that passes them again.
+-- Assumes nothing.
+use mathlib.Core.Path.{_≡_, refl, _∙_}
+use mathlib.Core.List.{List}
+use Prim.Native.Nat.{ℕ, zero, suc, _*_}
+use borrow.Author.Tests.{eq-eqb, le-leb}
+use lib.ListN.{length}
+use Rattle.board.specs.Answers.{passed}
+use Rattle.board.specs.Boards.{Bytes, Givens}
+use Rattle.board.proofs.Checks.{size-passes, marks-pass}
+use Rattle.solver.specs.Jobs.{tableSize, start, openRule, workCheck}
+use Rattle.solver.specs.Units.{State, Step, next, spoiled, unitOf}
+use Rattle.solver.specs.Calls.{Opens, onStep, worksOn}
+use Rattle.solver.specs.Inner.{Lent}
+use Rattle.solver.specs.declared.Stage.{Stage}
+use Rattle.solver.specs.declared.Job.{Job}
+use Rattle.solver.specs.declared.Opened.{Opened}
+use Rattle.solver.proofs.Fits.{fits-of}
+use Rattle.solver.proofs.UnitLaws.{unit-fits, unit-lent}
+use Rattle.solver.proofs.Serving.{table-pos}
+use Rattle.runner.specs.Solving.{memoryCheck}
+
+-- ---- an opened job
+module _ {w h : ℕ} {g : List ℕ} (G : Givens w h g) where
+  pub start-opens : Opens w h g (Opened.Ready (start w h))
+  unfolding openRule
+  start-opens = record { says = rw (size-passes (G .size), marks-pass (G .bytes)); job = λ j e. cc }
+
+  pub start-check : (t β : List ℕ) → workCheck (start w h) g t β ≡ memoryCheck w h t β
+  unfolding workCheck memoryCheck
+  start-check t β = rw (fits-of w h 0 Stage.Filling (G .size) (table-pos (G .size)), marks-pass (G .bytes))
+
+-- ---- a call that passes
+pub check-passes : (j : Job) (g t β : List ℕ) → Bytes 2 (j .width) (j .height) g → Lent j g t β → workCheck j g t β ≡ passed
+unfolding workCheck
+check-passes j g t β b L =
+    rw (L .taken, marks-pass b, eq-eqb (length β) (j .width * j .height) (L .cells), le-leb (tableSize (j .width) (j .height)) (length t) (L .entries))
+
+-- a state of the same grid that passes again
+pub record Kept (g : List ℕ) (s s′ : State) : Type 0 where
+  pub width : s′ .job .width ≡ s .job .width
+  pub height : s′ .job .height ≡ s .job .height
+  pub lent : Lent (s′ .job) g (s′ .table) (s′ .board)
+
+module _ (g : List ℕ) where
+  pub works-kept : (n : ℕ) (s : State) → Lent (s .job) g (s .table) (s .board) → Kept g s (worksOn g n s .state)
+  unfolding worksOn
+  works-kept zero s L = record { width = refl; height = refl; lent = L }
+  works-kept (suc n) s L = go (unitOf g s) refl (works-kept n)
+    where
+      go : (o : Step) → unitOf g s ≡ o → ((s′ : State) → Lent (s′ .job) g (s′ .table) (s′ .board) → Kept g s′ (worksOn g n s′ .state))
+          → Kept g s (onStep o s (worksOn g n) .state)
+      go (next s′) e ih =
+          let F = unit-fits g s s′ (L .taken) e in
+          let K = ih s′ (unit-lent g s s′ L e) in
+          record { width = K .width ∙ F .width; height = K .height ∙ F .height; lent = K .lent }
+      go spoiled e ih = record { width = refl; height = refl; lent = L }

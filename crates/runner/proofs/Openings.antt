@@ -1,0 +1,51 @@
+-- What opening answers tells of solving: a refusal is solving's too, and a job that is handed out is run over its givens.
+-- Assumes nothing.
+use mathlib.Core.Path.{_≡_, refl, sym, _∙_, ap}
+use mathlib.Core.List.{List}
+use Prim.Native.Nat.{ℕ}
+use Rattle.board.specs.Answers.{Answer, gives, refuses, refusalSays, _then_}
+use Rattle.board.specs.Boards.{Givens}
+use Rattle.board.specs.Checks.{sizeCheck, givensCheck}
+use Rattle.board.specs.declared.Refusal.{Refusal}
+use Rattle.board.proofs.Answers.{refuses-none, then-gives}
+use Rattle.board.proofs.Checks.{sized, marks-of, size-passes, marks-pass}
+use Rattle.solver.specs.Jobs.{start, jobSays, openRule, openedSays}
+use Rattle.solver.specs.Calls.{Opens}
+use Rattle.solver.specs.declared.Job.{Job}
+use Rattle.solver.specs.declared.Opened.{Opened}
+use Rattle.runner.specs.Solving.{memoryCheck, solveCheck, Solves, Ready, Runs}
+use Rattle.runner.specs.declared.Solved.{Solved}
+
+-- what is refused before the last check is refused whatever comes last
+refused-then : (a b : Answer) (values : List ℕ) {us : List ℕ} {n : ℕ} → refuses n us ≡ (a then b then gives values) → (rest : Answer) → (a then b then rest) ≡ refuses n us
+refused-then (gives xs) (gives ys) values e rest = absurd (refuses-none e)
+refused-then (gives xs) (refuses m ys) values e rest = sym e
+refused-then (refuses m xs) b values e rest = sym e
+
+module _ {w h : ℕ} {g : List ℕ} {o : Opened} (O : Opens w h g o) where
+  pub refused-solves : {r : Refusal} → o ≡ Opened.Refused r → (t β : List ℕ) → Solves w h g t β (Solved.Refused r) t β
+  unfolding openRule solveCheck
+  refused-solves {r} e t β =
+      let c : solveCheck w h g t β ≡ refusalSays r =
+      refused-then (sizeCheck w h) (givensCheck w h g) (jobSays (start w h)) (sym (ap openedSays e) ∙ O .says) (memoryCheck w h t β) in record {
+        comes = record {
+          turned = λ n values q. (sym c ∙ q, refl, refl);
+          ended = λ q. absurd (refuses-none (sym c ∙ q));
+          filled = λ q. absurd (refuses-none (sym c ∙ q));
+        };
+      }
+
+  module _ {j : Job} (e : o ≡ Opened.Ready j) where
+    opened-givens : Givens w h g
+    unfolding openRule
+    opened-givens =
+        let p = then-gives (sizeCheck w h) (givensCheck w h g then gives (jobSays (start w h))) (sym (O .says) ∙ ap openedSays e) in
+        let q = then-gives (givensCheck w h g) (gives (jobSays (start w h))) (p .1) in
+        record { size = sized w h (p .0 .1); bytes = marks-of w h g (q .0 .1) }
+
+    pub opened-ready : Ready j g
+    opened-ready = rw (O .job j e) (record { fresh = refl; grid = opened-givens })
+
+    pub run-solves : {t β t′ β′ : List ℕ} {r : Solved} → Runs j g t β r t′ β′ → Solves w h g t β r t′ β′
+    unfolding solveCheck
+    run-solves R = record { comes = rw (size-passes (opened-givens .size), marks-pass (opened-givens .bytes)) (rw (O .job j e) at (R .comes)) }

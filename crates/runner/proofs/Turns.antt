@@ -1,0 +1,252 @@
+-- A turn of the loop is one working call more at the end of a list of calls: what it answers and leaves, by the third demand.
+-- Assumes nothing.
+use mathlib.Core.Path.{_≡_, refl, sym, _∙_, ap, ap₂, subst}
+use mathlib.Core.Bool.{Bool, true, false}
+use mathlib.Core.List.{List, [], _∷_, _++_}
+use Prim.Native.Nat.{ℕ, _+_, _≤_, _<_, min}
+use native.Mathlib.Omega.{arith}
+use borrow.Author.Tests.{leb-true, leb-false}
+use lib.Dec.{leb}
+use Rattle.board.specs.Answers.{Answer, gives, refuses, passed}
+use Rattle.board.specs.Boards.{Givens}
+use Rattle.board.proofs.Answers.{refuses-none}
+use Rattle.solver.specs.Grid.{population}
+use Rattle.solver.specs.Jobs.{tableSize, boardLength, noneLength, start, workCheck, unfinished, finished, infeasible}
+use Rattle.solver.specs.Units.{State}
+use Rattle.solver.specs.Calls.{Result, workOf}
+use Rattle.solver.specs.Inner.{lentState}
+use Rattle.solver.specs.Demand.{Call, work, afterWork, afterCall, run, Each, Fair, counted, allowed, summed, Answers, Filled, Served, Outcome, solved, unsolvable, ThirdDemand}
+use Rattle.solver.specs.declared.Job.{Job}
+use Rattle.solver.specs.declared.Opened.{Opened}
+use Rattle.solver.proofs.CheckLaws.{Checked, work-checked, lent-of}
+use Rattle.solver.proofs.Serving.{table-pos}
+use Rattle.solver.proofs.Third.{third-demand}
+use Rattle.runner.specs.Solving.{memoryCheck, solvedSays, Ends, best, none, Comes, Ready, Runs}
+use Rattle.runner.specs.declared.Solved.{Solved}
+use Rattle.runner.proofs.Appending.{run-append, summed-append, each-append, each-last}
+use Rattle.runner.proofs.Memory.{start-opens, start-check, check-passes, Kept, works-kept}
+
+-- ---- a list of calls
+-- the opened job with its memory
+abbrev pub opened : ℕ → ℕ → List ℕ → List ℕ → State
+opened w h t β = lentState (start w h) t β
+
+-- what the checks of a working call over a state say
+abbrev pub checkIn : List ℕ → State → Answer
+checkIn g s = workCheck (s .job) g (s .table) (s .board)
+
+-- A list of calls that comes to a state in which the job is unfinished. The state passes the checks as the opened job does; memory that they
+-- turn away is as it was.
+pub record Going (w h : ℕ) (g t₀ β₀ : List ℕ) (s : State) : Type 0 where
+  pub calls : List Call
+  pub fair : Each (Fair g) calls (opened w h t₀ β₀)
+  pub comes : run calls (opened w h t₀ β₀) ≡ s
+  pub sum : summed calls (opened w h t₀ β₀) ≡ s .job .units
+  pub below : s .job .units < boardLength w h
+  pub width : s .job .width ≡ w
+  pub height : s .job .height ≡ h
+  pub check : checkIn g s ≡ memoryCheck w h t₀ β₀
+  pub same : (n : ℕ) (values : List ℕ) → memoryCheck w h t₀ β₀ ≡ refuses n values → (s .table ≡ t₀) × (s .board ≡ β₀)
+
+-- ---- one call more
+-- the turn's call, and what it answers and leaves
+abbrev lends : List ℕ → ℕ → State → Call
+lends g allowance s = work g (s .table) (s .board) allowance
+
+abbrev pub turn : List ℕ → ℕ → State → Result
+turn g allowance s = workOf (s .job) g (s .table) (s .board) allowance
+
+-- what a turn comes to where the checks pass, by the job's length, its last answer and its last board
+record Turned (w h : ℕ) (g t₀ β₀ : List ℕ) (n : ℕ) (s : State) (r : Result) : Type 0 where
+  long : ℕ
+  final : Answer
+  wanted : List ℕ
+  whole : tableSize w h ≤ long
+  most : long ≤ boardLength w h
+  last : final ≡ unfinished → ⊥
+  ends : (says : Answer) (β : List ℕ) → says ≡ final → β ≡ wanted → Ends w h g β₀ says β
+  units : r .state .job .units ≡ min long (s .job .units + n)
+  under : r .state .job .units < long → r .answer ≡ unfinished
+  from : long ≤ r .state .job .units → r .answer ≡ final
+  filled : Filled w h g (min (r .state .job .units) (tableSize w h)) t₀ (r .state .table)
+  board : long ≤ s .job .units + n → r .state .board ≡ wanted
+
+module _ {w h : ℕ} {g t₀ β₀ : List ℕ} {n : ℕ} {s : State} {r : Result} (T : Turned w h g t₀ β₀ n s r) where
+  -- "unfinished" is answered below the job's length, and only there
+  runs-on : r .answer ≡ unfinished → r .state .job .units < T .long
+  runs-on u = go (leb (T .long) (r .state .job .units)) refl
+    where
+      go : (b : Bool) → leb (T .long) (r .state .job .units) ≡ b → r .state .job .units < T .long
+      go true e = absurd (T .last (sym (T .from (leb-true (T .long) (r .state .job .units) e)) ∙ u))
+      go false e = leb-false (T .long) (r .state .job .units) e
+
+  runs-out : (r .answer ≡ unfinished → ⊥) → T .long ≤ r .state .job .units
+  runs-out f = go (leb (T .long) (r .state .job .units)) refl
+    where
+      go : (b : Bool) → leb (T .long) (r .state .job .units) ≡ b → T .long ≤ r .state .job .units
+      go true e = leb-true (T .long) (r .state .job .units) e
+      go false e = absurd (f (T .under (leb-false (T .long) (r .state .job .units) e)))
+
+-- what a turn that ends nothing leaves
+pub record Goes (w h : ℕ) (g t₀ β₀ : List ℕ) (s s′ : State) : Type 0 where
+  pub going : Going w h g t₀ β₀ s′
+  pub more : s .job .units < s′ .job .units
+
+-- the parts of a result
+abbrev answerOf : Result → Answer
+answerOf r = r .answer
+
+abbrev tableOf : Result → List ℕ
+tableOf r = r .state .table
+
+abbrev boardOf : Result → List ℕ
+boardOf r = r .state .board
+
+-- a call that passes keeps what its checks have shown
+turn-kept : (g : List ℕ) (n : ℕ) (s : State) → checkIn g s ≡ passed → Kept g s (turn g n s .state)
+unfolding workOf
+turn-kept g n s p = rw p (works-kept g n s (lent-of (s .job) g (s .table) (s .board) p))
+
+-- a call that is turned away does nothing
+refused-turn : (g : List ℕ) (n : ℕ) (s : State) {k : ℕ} {values : List ℕ} → checkIn g s ≡ refuses k values
+    → turn g n s ≡ record { answer = refuses k values; state = s }
+unfolding workOf
+refused-turn g n s e = rw e
+
+-- what is answered in the end is not "unfinished"
+solved-ends : (o : Solved) → solvedSays o ≡ unfinished → ⊥
+solved-ends (Solved.Best score) e = let z : _≡_ {A = ℕ} 0 1 = cc in omega arith
+solved-ends Solved.Infeasible e = let z : _≡_ {A = ℕ} 0 1 = cc in omega arith
+solved-ends (Solved.Refused r) e = refuses-none e
+
+module _ {w h : ℕ} {g : List ℕ} (G : Givens w h g) (t₀ β₀ : List ℕ) where
+  abbrev s₀ : State
+  s₀ = opened w h t₀ β₀
+
+  -- no call yet
+  begins : Going w h g t₀ β₀ s₀
+  unfolding run summed tableSize
+  begins = record {
+    calls = [];
+    fair = tt;
+    comes = refl;
+    sum = refl;
+    below = omega (arith, table-pos (G .size));
+    width = refl;
+    height = refl;
+    check = start-check G t₀ β₀;
+    same = λ n values e. (refl, refl);
+  }
+
+  -- the list with the turn's call at its end
+  module _ (n : ℕ) (s : State) (P : Going w h g t₀ β₀ s) where
+    abbrev longer : List Call
+    longer = P .calls ++ (lends g n s ∷ [])
+
+    longer-fair : Each (Fair g) longer s₀
+    longer-fair =
+        each-append (lends g n s) (Fair g) (P .calls) s₀ (P .fair)
+        (subst (Fair g (lends g n s)) (sym (P .comes)) (λ e. (refl, refl, refl)))
+
+    module _ (p : checkIn g s ≡ passed) where
+      longer-comes : run longer s₀ ≡ turn g n s .state
+      longer-comes = run-append (lends g n s) (P .calls) s₀ ∙ ap (afterCall (lends g n s)) (P .comes) ∙ ap (λ (a : Answer). afterWork a (turn g n s .state) s) p
+
+      longer-sum : summed longer s₀ ≡ s .job .units + n
+      longer-sum =
+          summed-append (lends g n s) (P .calls) s₀
+          ∙ ap₂ (λ (x y : ℕ). x + y) (P .sum) (ap (allowed (lends g n s)) (P .comes) ∙ ap (λ (a : Answer). counted a n) p)
+
+      served-turns : (long : ℕ) (final : Answer) (wanted : List ℕ) → tableSize w h ≤ long → long ≤ boardLength w h → (final ≡ unfinished → ⊥)
+          → ((says : Answer) (β : List ℕ) → says ≡ final → β ≡ wanted → Ends w h g β₀ says β)
+          → Served w h g long final wanted longer s₀ → Turned w h g t₀ β₀ n s (turn g n s)
+      served-turns long final wanted whole most last ends S =
+          let A = subst (Answers long final (lends g n s)) (P .comes) (each-last (lends g n s) (Answers long final) (P .calls) s₀ (S .answers)) in record {
+            long = long;
+            final = final;
+            wanted = wanted;
+            whole = whole;
+            most = most;
+            last = last;
+            ends = ends;
+            units = rw (longer-comes, longer-sum) at (S .units);
+            under = A .below p;
+            from = A .from p;
+            filled = rw longer-comes at (S .progress .filled);
+            board = rw (longer-comes, longer-sum) at (S .board);
+          }
+
+      turns : Turned w h g t₀ β₀ n s (turn g n s)
+      unfolding ThirdDemand tableSize
+      turns = go (third-demand w h g t₀ β₀ (Opened.Ready (start w h)) (start w h) (start-opens G) refl longer longer-fair)
+        where
+          go : Outcome w h g longer s₀ → Turned w h g t₀ β₀ n s (turn g n s)
+          go (solved board O S) =
+              served-turns (boardLength w h) (finished (population w h board)) board (omega arith) (omega arith) (λ e. let z : _≡_ {A = ℕ} 0 1 = cc in omega arith)
+              (λ says β e q. best (rw q O) (e ∙ ap (λ (b : List ℕ). finished (population w h b)) (sym q))) S
+          go (unsolvable f S) =
+              served-turns (noneLength w h) infeasible β₀ (omega arith) (omega (arith, G .size .some-row)) (λ e. let z : _≡_ {A = ℕ} 0 1 = cc in omega arith)
+              (λ says β e q. none f e q) S
+
+    -- a turn that ends nothing passed its checks
+    unfinished-passed : turn g n s .answer ≡ unfinished → checkIn g s ≡ passed
+    unfinished-passed u = go (checkIn g s) refl (work-checked (s .job) g (s .table) (s .board))
+      where
+        go : (a : Answer) → checkIn g s ≡ a → Checked a → checkIn g s ≡ passed
+        go (gives values) e c = e ∙ ap gives c
+        go (refuses k values) e c = absurd (refuses-none (sym (ap answerOf (refused-turn g n s e)) ∙ u))
+
+    -- a turn that ends nothing, and one that ends the job or is turned away
+    goes-on : 0 < n → turn g n s .answer ≡ unfinished → Goes w h g t₀ β₀ s (turn g n s .state)
+    goes-on some u =
+        let p = unfinished-passed u in
+        let T = turns p in
+        let l = runs-on T u in
+        let K = turn-kept g n s p in
+        let c : memoryCheck w h t₀ β₀ ≡ passed = sym (P .check) ∙ p in record {
+          going = record {
+            calls = longer;
+            fair = longer-fair;
+            comes = longer-comes p;
+            sum = longer-sum p ∙ omega (arith, T .units);
+            below = omega (arith, T .most);
+            width = K .width ∙ P .width;
+            height = K .height ∙ P .height;
+            check =
+                check-passes (turn g n s .state .job) g (turn g n s .state .table) (turn g n s .state .board) (rw (K .width ∙ P .width, K .height ∙ P .height) (G .bytes)) (K .lent)
+                ∙ sym c;
+            same = λ k values e. absurd (refuses-none (sym e ∙ c));
+          };
+          more = omega (arith, T .units);
+        }
+
+    ends : (turn g n s .answer ≡ unfinished → ⊥) → Comes (memoryCheck w h t₀ β₀) w h g t₀ β₀ (turn g n s .answer) (turn g n s .state .table) (turn g n s .state .board)
+    ends f = record {
+      turned = λ k values e.
+          let q = refused-turn g n s (P .check ∙ e) in
+          let m = P .same k values e in
+          (ap answerOf q, ap tableOf q ∙ m .0, ap boardOf q ∙ m .1);
+      ended = λ e.
+          let T = turns (P .check ∙ e) in
+          let l = runs-out T f in
+          T .ends (turn g n s .answer) (turn g n s .state .board) (T .from l) (T .board (omega (arith, T .units)));
+      filled = λ e.
+          let T = turns (P .check ∙ e) in
+          let l = runs-out T f in
+          let q : min (turn g n s .state .job .units) (tableSize w h) ≡ tableSize w h = omega (arith, T .whole) in
+          rw q at (T .filled);
+    }
+
+-- ---- an opened job
+module _ {j : Job} {g t₀ β₀ : List ℕ} (R : Ready j g) where
+  -- no call yet
+  pub ready-begins : Going (j .width) (j .height) g t₀ β₀ (lentState j t₀ β₀)
+  ready-begins = subst (λ (x : Job). Going (j .width) (j .height) g t₀ β₀ (lentState x t₀ β₀)) (sym (R .fresh)) (begins (R .grid) t₀ β₀)
+
+  -- what a turn hands back
+  module _ {s : State} (P : Going (j .width) (j .height) g t₀ β₀ s) (n : ℕ) {r : Result} (is : r ≡ turn g n s) where
+    pub turn-goes-on : 0 < n → r .answer ≡ unfinished → Goes (j .width) (j .height) g t₀ β₀ s (r .state)
+    turn-goes-on some u = rw is (goes-on (R .grid) t₀ β₀ n s P some (rw is at u))
+
+    pub turn-ends : {o : Solved} → r .answer ≡ solvedSays o → Runs j g t₀ β₀ o (r .state .table) (r .state .board)
+    turn-ends {o} e = record { comes = rw (← e, is) (ends (R .grid) t₀ β₀ n s P (λ u. solved-ends o (sym e ∙ ap answerOf is ∙ u))) }

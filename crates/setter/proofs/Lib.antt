@@ -1,0 +1,4 @@
+-- The laws of the program.
+pub mod Showing
+pub mod Solving
+pub mod Reading
