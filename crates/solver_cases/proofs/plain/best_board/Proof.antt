@@ -1,0 +1,65 @@
+-- `solver_cases::plain::best_board` is safe and ends: the number rises to the length.
+-- Assumes nothing.
+use mathlib.Core.Path.{_≡_}
+use Prim.Native.Nat.{_-_, _≤_}
+use lib.ListN.{length}
+use borrow.Author.Needs.{needs}
+use Rattle.solver_cases.proofs.plain.best_board.Statement.{statement}
+use Rattle.solver_cases.proofs.plain.best_board.Tie as tie
+
+abbrev Inv-loop : tie.InvT-loop
+Inv-loop still givens cells count best₀ first₀ number₀ number-end best first number = (number ≤ number-end) × (number-end ≡ length still)
+
+abbrev μ-loop : tie.MeasureT-loop
+μ-loop still givens cells count best₀ first₀ number₀ number-end best first number = number-end - number
+
+boards-requires : tie.Need-boards-requires Inv-loop μ-loop
+boards-requires c κs = search needs
+
+loop-holds : tie.Need-loop-holds Inv-loop μ-loop
+loop-holds c = search needs
+
+shared-slice-read-if2 : tie.Need-shared-slice-read-if2 Inv-loop μ-loop
+shared-slice-read-if2 c = search needs
+
+keeps-givens-requires : tie.Need-keeps-givens-requires Inv-loop μ-loop
+keeps-givens-requires c κs = search needs
+
+live-requires : tie.Need-live-requires Inv-loop μ-loop
+live-requires c κs = search needs
+
+wrapping-add-usize-requires : tie.Need-wrapping-add-usize-requires Inv-loop μ-loop
+wrapping-add-usize-requires c κs = search needs
+
+add-number : tie.Need-add-number Inv-loop μ-loop
+add-number c = search needs
+
+loop-less : tie.Need-loop-less Inv-loop μ-loop
+loop-less c = search needs
+
+loop-again : tie.Need-loop-again Inv-loop μ-loop
+loop-again c = search needs
+
+wrapping-sub-usize-requires : tie.Need-wrapping-sub-usize-requires Inv-loop μ-loop
+wrapping-sub-usize-requires c κs = search needs
+
+returns : tie.Need-returns Inv-loop μ-loop
+returns c = search needs
+
+pub best-board-spec : {M : Type 1} → statement M
+best-board-spec =
+    tie.close
+    (tie.spec
+    Inv-loop
+    μ-loop
+    boards-requires
+    loop-holds
+    shared-slice-read-if2
+    keeps-givens-requires
+    live-requires
+    wrapping-add-usize-requires
+    add-number
+    loop-less
+    loop-again
+    wrapping-sub-usize-requires
+    returns)

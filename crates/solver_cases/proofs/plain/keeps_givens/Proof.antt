@@ -1,0 +1,63 @@
+-- `solver_cases::plain::keeps_givens` is safe and ends: the place rises to the number of cells.
+-- Assumes nothing.
+use Prim.Native.Nat.{_-_, _≤_}
+use borrow.Author.Needs.{needs}
+use Rattle.solver_cases.proofs.plain.keeps_givens.Statement.{statement}
+use Rattle.solver_cases.proofs.plain.keeps_givens.Tie as tie
+
+abbrev Inv-loop : tie.InvT-loop
+Inv-loop givens cells number rest₀ k₀ rest k = k ≤ cells
+
+abbrev μ-loop : tie.MeasureT-loop
+μ-loop givens cells number rest₀ k₀ rest k = cells - k
+
+loop-holds : tie.Need-loop-holds Inv-loop μ-loop
+loop-holds c = search needs
+
+sub-p : tie.Need-sub-p Inv-loop μ-loop
+sub-p c = search needs
+
+sub-p-2 : tie.Need-sub-p-2 Inv-loop μ-loop
+sub-p-2 c = search needs
+
+returns : tie.Need-returns Inv-loop μ-loop
+returns c = search needs
+
+shared-slice-read-mark-kept : tie.Need-shared-slice-read-mark-kept Inv-loop μ-loop
+shared-slice-read-mark-kept c = search needs
+
+mark-kept-requires : tie.Need-mark-kept-requires Inv-loop μ-loop
+mark-kept-requires c κs = search needs
+
+returns-2 : tie.Need-returns-2 Inv-loop μ-loop
+returns-2 c = search needs
+
+add-k : tie.Need-add-k Inv-loop μ-loop
+add-k c = search needs
+
+loop-less : tie.Need-loop-less Inv-loop μ-loop
+loop-less c = search needs
+
+loop-again : tie.Need-loop-again Inv-loop μ-loop
+loop-again c = search needs
+
+returns-3 : tie.Need-returns-3 Inv-loop μ-loop
+returns-3 c = search needs
+
+pub keeps-givens-spec : {M : Type 1} → statement M
+keeps-givens-spec =
+    tie.close
+    (tie.spec
+    Inv-loop
+    μ-loop
+    loop-holds
+    sub-p
+    sub-p-2
+    returns
+    shared-slice-read-mark-kept
+    mark-kept-requires
+    returns-2
+    add-k
+    loop-less
+    loop-again
+    returns-3)

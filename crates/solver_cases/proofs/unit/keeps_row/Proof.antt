@@ -1,0 +1,67 @@
+-- `solver_cases::unit::keeps_row` is safe and ends: the place rises to the width.
+-- Assumes nothing.
+use Prim.Native.Nat.{_-_, _≤_}
+use borrow.Author.Needs.{needs}
+use Rattle.solver_cases.proofs.unit.keeps_row.Statement.{statement}
+use Rattle.solver_cases.proofs.unit.keeps_row.Tie as tie
+
+abbrev Inv-loop : tie.InvT-loop
+Inv-loop w givens from row rest₀ k₀ rest k = k ≤ w
+
+abbrev μ-loop : tie.MeasureT-loop
+μ-loop w givens from row rest₀ k₀ rest k = w - k
+
+loop-holds : tie.Need-loop-holds Inv-loop μ-loop
+loop-holds c = search needs
+
+sub-wrapping-add-usize : tie.Need-sub-wrapping-add-usize Inv-loop μ-loop
+sub-wrapping-add-usize c = search needs
+
+sub-wrapping-add-usize-2 : tie.Need-sub-wrapping-add-usize-2 Inv-loop μ-loop
+sub-wrapping-add-usize-2 c = search needs
+
+wrapping-add-usize-requires : tie.Need-wrapping-add-usize-requires Inv-loop μ-loop
+wrapping-add-usize-requires c κs = search needs
+
+returns : tie.Need-returns Inv-loop μ-loop
+returns c = search needs
+
+shared-slice-read-mark-kept : tie.Need-shared-slice-read-mark-kept Inv-loop μ-loop
+shared-slice-read-mark-kept c = search needs
+
+mark-kept-requires : tie.Need-mark-kept-requires Inv-loop μ-loop
+mark-kept-requires c κs = search needs
+
+returns-2 : tie.Need-returns-2 Inv-loop μ-loop
+returns-2 c = search needs
+
+add-k : tie.Need-add-k Inv-loop μ-loop
+add-k c = search needs
+
+loop-less : tie.Need-loop-less Inv-loop μ-loop
+loop-less c = search needs
+
+loop-again : tie.Need-loop-again Inv-loop μ-loop
+loop-again c = search needs
+
+returns-3 : tie.Need-returns-3 Inv-loop μ-loop
+returns-3 c = search needs
+
+pub keeps-row-spec : {M : Type 1} → statement M
+keeps-row-spec =
+    tie.close
+    (tie.spec
+    Inv-loop
+    μ-loop
+    loop-holds
+    sub-wrapping-add-usize
+    sub-wrapping-add-usize-2
+    wrapping-add-usize-requires
+    returns
+    shared-slice-read-mark-kept
+    mark-kept-requires
+    returns-2
+    add-k
+    loop-less
+    loop-again
+    returns-3)

@@ -1,0 +1,250 @@
+// Numbers around the edges of the rules: which of them resuming and pausing take.
+use crate::calls;
+use crate::random;
+use crate::sizes;
+use crate::sizes::Size;
+use crate::unit;
+use crate::unit::Run;
+use solver::Checkpoint;
+use solver::Job;
+use solver::Paused;
+use solver::Resumed;
+use solver::Stage;
+use std::num;
+
+// What was tried.
+struct Tally {
+    taken: usize,
+    refused: usize,
+    wrong: usize,
+}
+
+pub fn try_all() {
+    let mut resumed = Tally {
+        taken: 0,
+        refused: 0,
+        wrong: 0,
+    };
+    let mut paused = resumed;
+    for k in 0..50000 {
+        let numbers = random_numbers(num::wrapping_add_usize(k, 4000000));
+        resumed = counted(resumed, unit::takes(numbers), resumes_as(numbers));
+        let job = random_job(numbers, k);
+        paused = counted(paused, is_job(job), pauses_as(job));
+    }
+    print(b"numbers around the rules that resuming takes: ", resumed);
+    print(b"jobs around the rules that pausing takes: ", paused);
+}
+
+fn print(name: &[u8], t: Tally) {
+    report::line(name, t.taken);
+    report::line(b"  refused: ", t.refused);
+    report::line(b"  differences from the rules: ", t.wrong);
+}
+
+// An answer: 1 where the numbers were taken and nothing was lost of them, 0 where they were refused, otherwise 2.
+fn counted(t: Tally, taken: bool, answer: usize) -> Tally {
+    let right = answer == (if taken { 1 } else { 0 });
+    Tally {
+        taken: num::wrapping_add_usize(t.taken, if taken { 1 } else { 0 }),
+        refused: num::wrapping_add_usize(t.refused, if taken { 0 } else { 1 }),
+        wrong: num::wrapping_add_usize(t.wrong, if right { 0 } else { 1 }),
+    }
+}
+
+fn resumes_as(numbers: Checkpoint) -> usize {
+    match numbers.resume() {
+        Resumed::Refused(r) => {
+            if r.number() == 7 {
+                return 0;
+            }
+            2
+        }
+        Resumed::Ready(job) => {
+            if pauses_to(job, numbers) && calls::same_job(job, job_of(numbers)) {
+                return 1;
+            }
+            2
+        }
+    }
+}
+
+fn job_of(c: Checkpoint) -> Job {
+    let run = Run {
+        units: c.units,
+        above: c.above,
+        last: c.last,
+        live: c.live,
+        mark: c.mark,
+    };
+    unit::job_of(sizes::sized(c.width, c.height), run)
+}
+
+fn pauses_as(job: Job) -> usize {
+    match job.pause() {
+        Paused::Refused(r) => {
+            if r.number() == 7 {
+                return 0;
+            }
+            2
+        }
+        Paused::Numbers(numbers) => {
+            if same_numbers(numbers, numbers_of(job)) {
+                return 1;
+            }
+            2
+        }
+    }
+}
+
+fn pauses_to(job: Job, numbers: Checkpoint) -> bool {
+    match job.pause() {
+        Paused::Refused(_) => false,
+        Paused::Numbers(back) => same_numbers(back, numbers),
+    }
+}
+
+fn same_numbers(a: Checkpoint, b: Checkpoint) -> bool {
+    let sizes = a.width == b.width && a.height == b.height && a.units == b.units;
+    let rows = a.above == b.above && a.last == b.last && a.live == b.live;
+    sizes && rows && a.mark == b.mark
+}
+
+// Whether a job's stage fits its units, and its numbers the rules.
+fn is_job(job: Job) -> bool {
+    let s = sizes::sized(job.width, job.height);
+    let stage = job.stage;
+    let fits = match stage {
+        Stage::Filling => job.units < s.entries,
+        Stage::Choosing {
+            above: _,
+            last: _,
+            live: _,
+        } => s.entries <= job.units,
+        Stage::Finished {
+            above: _,
+            last: _,
+            score: _,
+        } => true,
+        Stage::Infeasible => true,
+    };
+    fits && unit::takes(numbers_of(job))
+}
+
+// The seven numbers of a job.
+fn numbers_of(job: Job) -> Checkpoint {
+    let stage = job.stage;
+    match stage {
+        Stage::Filling => running(job, 0, 0, 0, 0),
+        Stage::Choosing { above, last, live } => running(job, above, last, live, 0),
+        Stage::Finished { above, last, score } => running(job, above, last, score, 1),
+        Stage::Infeasible => running(job, 0, 0, 0, 2),
+    }
+}
+
+fn running(job: Job, above: usize, last: usize, live: usize, mark: usize) -> Checkpoint {
+    Checkpoint {
+        width: job.width,
+        height: job.height,
+        units: job.units,
+        above,
+        last,
+        live,
+        mark,
+    }
+}
+
+// A job of some numbers in any stage.
+fn random_job(c: Checkpoint, seed: usize) -> Job {
+    let stage = match random::below(4, seed, 700000) {
+        0 => Stage::Filling,
+        1 => Stage::Choosing {
+            above: c.above,
+            last: c.last,
+            live: c.live,
+        },
+        2 => Stage::Finished {
+            above: c.above,
+            last: c.last,
+            score: c.live,
+        },
+        _ => Stage::Infeasible,
+    };
+    Job {
+        width: c.width,
+        height: c.height,
+        units: c.units,
+        stage,
+    }
+}
+
+// Numbers that mostly keep the rules, so that those that do not mostly break one.
+fn random_numbers(seed: usize) -> Checkpoint {
+    let tall = random::below(3, seed, 800000) == 0;
+    let low = if tall { 58 } else { 0 };
+    let s = sizes::sized(
+        random::below(12, seed, 800001),
+        num::wrapping_add_usize(low, random::below(4, seed, 800002)),
+    );
+    let mark = match random::below(16, seed, 800003) {
+        0..=8 => 0,
+        9..=12 => 1,
+        13..=14 => 2,
+        _ => 3,
+    };
+    let units = random_units(s, mark, seed);
+    let n = sizes::rows(s.w);
+    Checkpoint {
+        width: s.w,
+        height: s.h,
+        units,
+        above: random_row(n, seed, 800006),
+        last: random_row(n, seed, 800008),
+        live: random_live(s, units, seed),
+        mark,
+    }
+}
+
+// Where a job of a mark stands, at the ends of filling and choosing, beside them, or anywhere.
+fn random_units(s: Size, mark: usize, seed: usize) -> usize {
+    let end = num::wrapping_add_usize(s.entries, s.h);
+    match random::below(16, seed, 800004) {
+        0..=4 => match mark {
+            0 => num::wrapping_add_usize(s.entries, random::below(s.h, seed, 800005)),
+            1 => end,
+            _ => num::wrapping_add_usize(s.entries, 1),
+        },
+        5 => random::below(end, seed, 800005),
+        6..=7 => num::wrapping_sub_usize(s.entries, 1),
+        8 => s.entries,
+        9..=10 => num::wrapping_add_usize(s.entries, 1),
+        11 => num::wrapping_sub_usize(end, 1),
+        12..=13 => end,
+        14 => num::wrapping_add_usize(end, 1),
+        _ => num::wrapping_sub_usize(0, random::below(70, seed, 800005)),
+    }
+}
+
+// The dead row, any, the last, or one past it.
+fn random_row(n: usize, seed: usize, place: usize) -> usize {
+    match random::below(16, seed, place) {
+        0..=8 => 0,
+        9..=11 => num::wrapping_sub_usize(n, 1),
+        12..=13 => random::below(n, seed, num::wrapping_add_usize(place, 1)),
+        14 => n,
+        _ => num::wrapping_sub_usize(0, 1),
+    }
+}
+
+// None, the most that the rows chosen can have, one more, or anything.
+fn random_live(s: Size, units: usize, seed: usize) -> usize {
+    let chosen = num::wrapping_sub_usize(units, s.entries);
+    let most = sizes::times(s.w, calls::least(chosen, 61));
+    match random::below(16, seed, 800010) {
+        0..=7 => 0,
+        8..=11 => most,
+        12..=13 => num::wrapping_add_usize(most, 1),
+        14 => random::below(600, seed, 800011),
+        _ => num::wrapping_sub_usize(0, 1),
+    }
+}

@@ -1,0 +1,155 @@
+// Still boards by a plain count of neighbours, and the best one by enumeration, written apart from the library.
+use crate::sizes;
+use crate::sizes::Size;
+use std::num;
+
+// A row's cell; column j is one more than the ring's, so that none before the ring is negative.
+fn cell(w: usize, row: usize, j: usize) -> usize {
+    if j < 2 {
+        return 0;
+    }
+    let k = j - 2;
+    if w <= k {
+        return 0;
+    }
+    (row >> ((w - 1 - k) % 64)) % 2
+}
+
+// The live cells among three neighbouring ones of a row.
+fn three(w: usize, row: usize, j: usize) -> usize {
+    let two = num::wrapping_add_usize(cell(w, row, j), cell(w, row, num::wrapping_add_usize(j, 1)));
+    num::wrapping_add_usize(two, cell(w, row, num::wrapping_add_usize(j, 2)))
+}
+
+// Whether the cell of b in column j, ring counted, keeps its state with a over b over c.
+fn keeps(w: usize, a: usize, b: usize, c: usize, j: usize) -> bool {
+    let centre = cell(w, b, num::wrapping_add_usize(j, 1));
+    let two = num::wrapping_add_usize(three(w, a, j), three(w, b, j));
+    let all = num::wrapping_add_usize(two, three(w, c, j));
+    let live = num::wrapping_sub_usize(all, centre);
+    if live == 3 {
+        return centre == 1;
+    }
+    if live == 2 {
+        return true;
+    }
+    centre == 0
+}
+
+// Whether every cell of b keeps its state, ring included.
+pub fn agree(w: usize, a: usize, b: usize, c: usize) -> bool {
+    let end = num::wrapping_add_usize(w, 2);
+    for j in 0..end {
+        if !keeps(w, a, b, c, j) {
+            return false;
+        }
+    }
+    true
+}
+
+// Whether a board is still: its cells are the digits of a number. Goes from the ring's last row up to its first.
+fn is_still(w: usize, h: usize, number: usize) -> bool {
+    let n = sizes::rows(w);
+    let end = num::wrapping_add_usize(h, 2);
+    let mut rest = number;
+    let mut row = 0;
+    let mut below = 0;
+    for k in 0..end {
+        let above = rest % n;
+        rest = rest / n;
+        if !agree(w, above, row, below) {
+            return false;
+        }
+        below = row;
+        row = above;
+    }
+    true
+}
+
+// Marks the still boards of a size, each at its number.
+pub fn mark_still(still: &mut [u8], s: Size) {
+    let count = boards(s.cells);
+    for number in 0..still.len() {
+        still[number] = still_mark(s, count, number);
+    }
+}
+
+fn still_mark(s: Size, count: usize, number: usize) -> u8 {
+    if count <= number {
+        return 0;
+    }
+    if is_still(s.w, s.h, number) { 1 } else { 0 }
+}
+
+// The boards of so many cells.
+fn boards(cells: usize) -> usize {
+    1 << (cells % 64)
+}
+
+// What enumeration finds.
+pub struct Best {
+    pub found: bool,
+    pub score: usize,
+    // Its cells as digits.
+    pub board: usize,
+}
+
+// The first best still board that keeps the givens: board order is the order of the boards' numbers.
+pub fn best_board(still: &[u8], givens: &[u8], cells: usize) -> Best {
+    let count = boards(cells);
+    let mut best = 0; // one more than the best score, 0 while there is none
+    let mut first = 0;
+    for number in 0..still.len() {
+        if count <= number {
+            break;
+        }
+        if still[number] == 1 {
+            if keeps_givens(givens, cells, number) {
+                let v = num::wrapping_add_usize(live(number), 1);
+                if best < v {
+                    best = v;
+                    first = number;
+                }
+            }
+        }
+    }
+    Best {
+        found: best != 0,
+        score: num::wrapping_sub_usize(best, 1),
+        board: first,
+    }
+}
+
+// The live cells of a row or a board.
+pub fn live(number: usize) -> usize {
+    wide(usize::count_ones(number))
+}
+
+pub fn wide(x: u32) -> usize {
+    x as usize
+}
+
+fn keeps_givens(givens: &[u8], cells: usize, number: usize) -> bool {
+    let mut rest = number;
+    for k in 0..cells {
+        let p = cells - 1 - k;
+        if givens.len() <= p {
+            return false;
+        }
+        if !mark_kept(givens[p], rest % 2) {
+            return false;
+        }
+        rest = rest / 2;
+    }
+    true
+}
+
+pub fn mark_kept(mark: u8, cell: usize) -> bool {
+    if mark == 1 {
+        return cell == 0;
+    }
+    if mark == 2 {
+        return cell == 1;
+    }
+    true
+}

@@ -1,0 +1,57 @@
+-- `solver_squares::run` is safe and ends: the calls rise to eleven.
+-- Assumes nothing.
+use mathlib.Core.Path.{_≡_}
+use Prim.Native.Nat.{_-_, _≤_}
+use lib.ListN.{length}
+use borrow.Author.Needs.{needs}
+use Rattle.solver_squares.proofs.run.Statement.{statement}
+use Rattle.solver_squares.proofs.run.Tie as tie
+
+abbrev Inv-loop : tie.InvT-loop
+Inv-loop givens table₀ board₀ job₀ k₀ table board job k = (k ≤ 11) × (length table ≡ length table₀) × (length board ≡ length board₀)
+
+abbrev μ-loop : tie.MeasureT-loop
+μ-loop givens table₀ board₀ job₀ k₀ table board job k = 11 - k
+
+loop-holds : tie.Need-loop-holds Inv-loop μ-loop
+loop-holds c = search needs
+
+pause-and-resume-requires : tie.Need-pause-and-resume-requires Inv-loop μ-loop
+pause-and-resume-requires c κs = search needs
+
+work-requires : tie.Need-work-requires Inv-loop μ-loop
+work-requires c κs = search needs
+
+add-k : tie.Need-add-k Inv-loop μ-loop
+add-k c = search needs
+
+loop-less : tie.Need-loop-less Inv-loop μ-loop
+loop-less c = search needs
+
+loop-again : tie.Need-loop-again Inv-loop μ-loop
+loop-again c = search needs
+
+same-length : tie.Need-same-length Inv-loop μ-loop
+same-length c = search needs
+
+same-length-2 : tie.Need-same-length-2 Inv-loop μ-loop
+same-length-2 c = search needs
+
+returns : tie.Need-returns Inv-loop μ-loop
+returns c = search needs
+
+pub run-spec : {M : Type 1} → statement M
+run-spec =
+    tie.close
+    (tie.spec
+    Inv-loop
+    μ-loop
+    loop-holds
+    pause-and-resume-requires
+    work-requires
+    add-k
+    loop-less
+    loop-again
+    same-length
+    same-length-2
+    returns)
