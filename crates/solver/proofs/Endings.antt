@@ -38,7 +38,7 @@ ends w a b = agree conway w a b 0 && agree conway w b 0 0
 
 pub kind-laws : (w h : ℕ) (g : List ℕ) → Sized w h → Laws (kind w h g) h
 kind-laws w h g z =
-    sums-lawful (rules conway w (λ k. (h - suc k) * w) g) h w
+    sums-lawful (rules (agree conway w) w (λ k. (h - suc k) * w) g) h w
     (record { each = λ k c l. live-le w c; within = omega (arith, mul-le-mul-right w (z .low), z .narrow); absent-above = lit< tt })
 
 -- ---- a mark that is kept, by the two states that a given cell may have

@@ -12,14 +12,14 @@ use lib.IntN.{pos, predℤ, sucℤ}
 use lib.Pow.{pow-pos}
 use Rattle.board.specs.Search.{allBelow}
 use Rattle.elimination.specs.Candidates.{scan}
-use Rattle.elimination.specs.Kind.{Kind, offerIf, choose, entry, worthOf}
+use Rattle.elimination.specs.Kind.{offerIf, choose, entry, worthOf}
 use Rattle.elimination.specs.Sums.{sumKind}
 use Rattle.elimination.proofs.Kind.{entry-last, entry-more}
 use Rattle.life.specs.Plane.{nine}
 use Rattle.life.specs.Rule.{Conway, conway, entryOf}
 use Rattle.life.specs.Rows.{cellOf, becomes, stepsTo, agree}
-use Rattle.solver.specs.Rows.{live, rowKept}
-use Rattle.solver.specs.ScoreTable.{kindBy, kindOf, placeOf, readsFrom, readsOf, choiceOf}
+use Rattle.solver.specs.Rows.{rowKept}
+use Rattle.solver.specs.ScoreTable.{rules, kindBy, kindOf, placeOf, readsFrom, readsOf, choiceOf}
 use Rattle.solver.specs.Jobs.{tableSize}
 use Rattle.solver.specs.Units.{unitPlace, unitEntry, rowChoice}
 use Rattle.solver.specs.Inner.{Found}
@@ -51,22 +51,8 @@ module _ (table : List ℕ) (C : Conway table) where
   agree-same w a b c =
       ap (λ (f : ℕ → Bool). allBelow f (w + 2)) (fun-ext λ j. ap (λ (x : ℕ). eqb x (cellOf w b (pos j))) (C .entry _ (nine-small w a b c j)))
 
-  -- what is asked, by the agreement of three rows
-  abbrev askedBy : ℕ → (ℕ → ℕ) → List ℕ → (ℕ → ℕ → ℕ → Bool) → Kind ℕ
-  askedBy w givensAt givens agreed =
-      sumKind record {
-        least = false;
-        greaterFirst = false;
-        absent = 65535;
-        limit = 600;
-        worth = λ k c. live w c;
-        codes = 2 ^ w;
-        may = λ k a b c. agreed a b c && rowKept w givens (givensAt k) c;
-        mayEnd = λ a b. agreed a b 0 && agreed b 0 0;
-      }
-
   pub kind-same : (w : ℕ) (givensAt : ℕ → ℕ) (givens : List ℕ) → kindBy (entryOf table) w givensAt givens ≡ kindBy conway w givensAt givens
-  kind-same w givensAt givens = ap (askedBy w givensAt givens) (fun-ext λ a. fun-ext λ b. fun-ext λ c. agree-same w a b c)
+  kind-same w givensAt givens = ap (λ (f : ℕ → ℕ → ℕ → Bool). sumKind (rules f w givensAt givens)) (fun-ext λ a. fun-ext λ b. fun-ext λ c. agree-same w a b c)
 
 -- ---- a row's givens and its layer
 -- the choice goes by the place of the givens alone

@@ -117,6 +117,8 @@ module _ {w h : ℕ} (z : Sized w h) (g t β : List ℕ) (size : length β ≡ w
     progress : (m : ℕ) (s : State) → Comes m s → Progress w h g wanted s₀ s
     progress m s R =
         let i = R .is ∙ settled m in record {
+          width = R .here .wide;
+          height = R .here .tall;
           units = units-split w h (s .job .units) (s .job .stage) (R .here .stage);
           filled = rw (reached-units z g (first w h g t β) long final lasts end R, table-four w h, ap tableIn i) (table-filled w h g t β room (min m long));
           written = boards (min m long) (omega arith) s (R .here) i;

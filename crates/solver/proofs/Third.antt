@@ -64,6 +64,8 @@ module _ {w h : ℕ} (z : Sized w h) (g t β : List ℕ) (shut : length β ≡ w
         answers = I .answers;
         pausable = rw (I .state) (pausable (start w h) start-fits);
         progress = rw (I .state) (record {
+          width = refl;
+          height = refl;
           units = units-split w h 0 Stage.Filling (table-pos z);
           filled = record { size = refl; right = λ u l. absurd (omega arith); rest = λ p n. refl };
           written = record { size = refl; rows = λ p l. absurd (omega arith); rest = λ p l. refl };

@@ -139,8 +139,10 @@ idleUnits (Stage.Choosing above last live) = 0
 idleUnits (Stage.Finished above last score) = 0
 idleUnits Stage.Infeasible = 1
 
--- the units done are the entries written and the rows chosen
+-- the job is still of the opened grid, and the units done are the entries written and the rows chosen
 pub record Progress (w h : ℕ) (givens wanted : List ℕ) (before now : State) : Type 0 where
+  pub width : now .job .width ≡ w
+  pub height : now .job .height ≡ h
   pub units : now .job .units ≡ entriesWritten w h (now .job) + chosenRows w h (now .job) + idleUnits (now .job .stage)
   pub filled : Filled w h givens (entriesWritten w h (now .job)) (before .table) (now .table)
   pub written : Written w (chosenRows w h (now .job)) wanted (before .board) (now .board)

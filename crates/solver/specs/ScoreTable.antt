@@ -1,7 +1,7 @@
 -- Document 01, "The score table" and the choice of a row: row elimination over the rows of a grid. The rules of an entry and of a choice over
 -- whatever numbers the table holds are `entry` and `choose` of crate `elimination`; here stand what they are asked of, and where entries lie.
 -- Assumes nothing.
-use mathlib.Core.Bool.{false, _&&_}
+use mathlib.Core.Bool.{Bool, false, _&&_}
 use mathlib.Core.List.{List}
 use Prim.Native.Nat.{ℕ, suc, _+_, _*_, _-_, _^_}
 use lib.ListN.{getD}
@@ -15,21 +15,22 @@ use Rattle.solver.specs.declared.best.Best.the-variants.{Nothing, Row}
 
 -- What is asked: the greatest number of live cells, among equals the smallest row; 65,535 stands for none, and a number read above 600 counts as
 -- none. Row c may stand below a over b where the three agree and c keeps the givens of its row, which start at `givensAt k` with k rows after it;
--- the board may end below a over b where (a, b, 0) and (b, 0, 0) agree. `next` is the table of the 512 patterns.
-abbrev pub rules : (ℕ → ℕ) → ℕ → (ℕ → ℕ) → List ℕ → SumRules
-rules next w givensAt givens = record {
+-- the board may end below a over b where (a, b, 0) and (b, 0, 0) agree. `agreed` is whether three rows agree.
+abbrev pub rules : (ℕ → ℕ → ℕ → Bool) → ℕ → (ℕ → ℕ) → List ℕ → SumRules
+rules agreed w givensAt givens = record {
   least = false;
   greaterFirst = false;
   absent = 65535;
   limit = 600;
   worth = λ k c. live w c;
   codes = 2 ^ w;
-  may = λ k a b c. agree next w a b c && rowKept w givens (givensAt k) c;
-  mayEnd = λ a b. agree next w a b 0 && agree next w b 0 0;
+  may = λ k a b c. agreed a b c && rowKept w givens (givensAt k) c;
+  mayEnd = λ a b. agreed a b 0 && agreed b 0 0;
 }
 
+-- rows agree by `next`, the table of the 512 patterns
 abbrev pub kindBy : (ℕ → ℕ) → ℕ → (ℕ → ℕ) → List ℕ → Kind ℕ
-kindBy next w givensAt givens = sumKind (rules next w givensAt givens)
+kindBy next w givensAt givens = sumKind (rules (agree next w) w givensAt givens)
 
 -- of a grid of h rows: the row with k rows after it has h - k - 1 rows above it
 abbrev pub kindOf : (ℕ → ℕ) → ℕ → ℕ → List ℕ → Kind ℕ
