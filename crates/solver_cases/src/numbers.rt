@@ -28,9 +28,9 @@ pub fn try_all() {
     let mut paused = resumed;
     for k in 0..50000 {
         let numbers = random_numbers(num::wrapping_add_usize(k, 4000000));
-        resumed = counted(resumed, unit::takes(numbers), resumes_as(numbers));
+        resumed = counted(resumed, numbers, unit::takes(numbers), resumes_as(numbers));
         let job = random_job(numbers, k);
-        paused = counted(paused, is_job(job), pauses_as(job));
+        paused = counted(paused, numbers_of(job), is_job(job), pauses_as(job));
     }
     print(b"numbers around the rules that resuming takes: ", resumed);
     print(b"jobs around the rules that pausing takes: ", paused);
@@ -43,13 +43,33 @@ fn print(name: &[u8], t: Tally) {
 }
 
 // An answer: 1 where the numbers were taken and nothing was lost of them, 0 where they were refused, otherwise 2.
-fn counted(t: Tally, taken: bool, answer: usize) -> Tally {
+fn counted(t: Tally, numbers: Checkpoint, taken: bool, answer: usize) -> Tally {
     let right = answer == (if taken { 1 } else { 0 });
+    if !right {
+        print_numbers(numbers);
+    }
     Tally {
         taken: num::wrapping_add_usize(t.taken, if taken { 1 } else { 0 }),
         refused: num::wrapping_add_usize(t.refused, if taken { 0 } else { 1 }),
         wrong: num::wrapping_add_usize(t.wrong, if right { 0 } else { 1 }),
     }
+}
+
+// Prints a difference with its numbers.
+fn print_numbers(c: Checkpoint) {
+    report::text(b"difference: width ");
+    report::number(c.width);
+    report::text(b", height ");
+    report::number(c.height);
+    report::text(b", units ");
+    report::number(c.units);
+    report::text(b", rows ");
+    report::number(c.above);
+    report::text(b" and ");
+    report::number(c.last);
+    report::text(b", live ");
+    report::number(c.live);
+    report::line(b", mark ", c.mark);
 }
 
 fn resumes_as(numbers: Checkpoint) -> usize {

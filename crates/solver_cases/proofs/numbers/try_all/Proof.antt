@@ -32,6 +32,9 @@ counted-requires c κs = search needs
 random-job-requires : tie.Need-random-job-requires Inv-loop μ-loop
 random-job-requires c κs = search needs
 
+numbers-of-requires : tie.Need-numbers-of-requires Inv-loop μ-loop
+numbers-of-requires c κs = search needs
+
 is-job-requires : tie.Need-is-job-requires Inv-loop μ-loop
 is-job-requires c κs = search needs
 
@@ -78,6 +81,7 @@ try-all-spec =
     resumes-as-requires
     counted-requires
     random-job-requires
+    numbers-of-requires
     is-job-requires
     pauses-as-requires
     counted-requires-2
