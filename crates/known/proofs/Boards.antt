@@ -6,7 +6,7 @@ use Rattle.board.specs.Sums.{total}
 use Rattle.board.specs.Checks.{sizeCheck, cellsCheck, givensCheck, boardCheck}
 use Rattle.elimination.specs.Candidates.{scan}
 use Rattle.elimination.specs.Kind.{choose, entry}
-use Rattle.life.specs.Rule.{conway}
+use Rattle.rule.specs.Rule.{conway}
 use Rattle.life.specs.Plane.{onPlane, around}
 use Rattle.life.specs.Rows.{cellOf, becomes, stepsTo}
 use Rattle.life.specs.Calls.{nextAt, keepsAt, judged, judgeRule}

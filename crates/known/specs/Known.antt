@@ -5,7 +5,7 @@ use mathlib.Core.List.{List, [], _∷_}
 use Prim.Native.Nat.{ℕ, _*_}
 use lib.ListN.{replicate}
 use Rattle.board.specs.Answers.{Answer, gives}
-use Rattle.life.specs.Rule.{conway}
+use Rattle.rule.specs.Rule.{conway}
 use Rattle.life.specs.Calls.{judgeRule, still, changes}
 use Rattle.plaintext.specs.Letters.{LF, bigO}
 use Rattle.plaintext.specs.Reading.{readRule}

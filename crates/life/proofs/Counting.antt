@@ -9,7 +9,7 @@ use borrow.Author.Tests.{eqb-true}
 use lib.Dec.{eqb}
 use lib.IntN.{ℤ, sucℤ, predℤ}
 use Rattle.board.specs.Boards.{Board}
-use Rattle.life.specs.Rule.{conway, nextState}
+use Rattle.rule.specs.Rule.{conway, nextState}
 use Rattle.life.specs.Plane.{onPlane, around, tableStep, lifeStep}
 use Rattle.board.proofs.Tests.{and-left, and-right}
 use Rattle.life.proofs.OnPlane.{plane-small}

@@ -1,6 +1,4 @@
 -- The laws of this crate that belong to no one function.
-pub mod Every
-pub mod Entries
 pub mod OnPlane
 pub mod Ring
 pub mod Same

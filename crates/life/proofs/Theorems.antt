@@ -5,7 +5,7 @@ use mathlib.Core.List.{List}
 use Prim.Native.Nat.{ℕ}
 use Rattle.board.specs.Boards.{Board}
 use Rattle.board.proofs.Answers.{refuses-none}
-use Rattle.life.specs.Rule.{conway}
+use Rattle.rule.specs.Rule.{conway}
 use Rattle.life.specs.Plane.{onPlane, lifeStep, tableStep, Still, StillBy}
 use Rattle.life.specs.Calls.{verdictSays, still, changes}
 use Rattle.life.specs.declared.Verdict.{Verdict}

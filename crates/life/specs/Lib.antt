@@ -1,4 +1,3 @@
-pub mod Rule
 pub mod Plane
 pub mod Rows
 pub mod Calls

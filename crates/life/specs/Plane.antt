@@ -7,7 +7,7 @@ use Prim.Native.Nat.{ℕ, _+_, _*_, _-_}
 use lib.IntN.{ℤ, pos, negsuc, sucℤ, predℤ}
 use lib.ListN.{getD}
 use Rattle.board.specs.Boards.{among}
-use Rattle.life.specs.Rule.{nextState}
+use Rattle.rule.specs.Rule.{nextState}
 
 -- a state for each row and column, 0 dead, 1 live
 abbrev pub Plane : Type 0

@@ -1,4 +1,4 @@
--- What is proved of the table, the step, the judge and the rows, over the definitions that the contracts cite.
+-- What is proved of the step, the judge and the rows, over the definitions that the contracts cite.
 -- Assumes nothing.
 use mathlib.Core.Path.{_≡_}
 use mathlib.Core.Logic.{_↔_, _⊎_}
@@ -6,18 +6,13 @@ use mathlib.Core.List.{List}
 use Prim.Native.Nat.{ℕ, _+_, _^_, _<_, _≤_}
 use lib.IntN.{ℤ, pos, sucℤ}
 use lib.ListN.{length}
-use Rattle.board.specs.Sums.{total}
 use Rattle.board.specs.Answers.{passed}
 use Rattle.board.specs.Boards.{Board}
-use Rattle.life.specs.Rule.{Conway, conway, unchanged, entryOf}
+use Rattle.rule.specs.Rule.{conway}
 use Rattle.life.specs.Plane.{Plane, onPlane, three, lifeStep, tableStep, Still, StillBy}
 use Rattle.life.specs.Rows.{RowsAgree, cellOf, window}
 use Rattle.life.specs.Calls.{stepRule, stepWrites, judgeRule, verdictSays, still, changes}
 use Rattle.life.specs.declared.Verdict.{Verdict}
-
--- of a table that holds Life's rule, exactly 140 entries are live and exactly 284 patterns leave the centre unchanged
-abbrev pub Counts : Type 0
-Counts = (table : List ℕ) → Conway table → (total (entryOf table) 512 ≡ 140) × (total (unchanged (entryOf table)) 512 ≡ 284)
 
 -- ---- the judge
 -- cell (r, c) stands before cell (s, d) in reading order

@@ -3,12 +3,11 @@ use board::Check;
 use board::Refusal;
 
 mod plane;
-pub mod table;
 
 ghost use mathlib.Core.Path.{_≡_};
 ghost use lib.ListN.{length};
 ghost use Rattle.board.specs.Answers.{checkSays};
-ghost use Rattle.life.specs.Rule.{nextState, conway};
+ghost use Rattle.rule.specs.Rule.{conway};
 ghost use Rattle.life.specs.Calls.{verdictSays, judgeRule, stepRule, stepWrites};
 
 // What judging finds; a cell's row and column count the ring.
@@ -16,19 +15,6 @@ pub enum Verdict {
     Still,
     Changes { row: usize, column: usize },
     Refused(Refusal),
-}
-
-// A cell's next state, by its state and its number of live neighbours.
-pub fn next_state(centre: u8, live: u8) -> u8
-    ensures { λ r. ⌜ r ≡ nextState centre live ⌝ }
-{
-    match live {
-        0..=1 => 0, // isolation
-        2 => centre,
-        3 => 1,
-        4..=8 => 0, // overcrowding
-        _ => 0, // a cell has eight neighbours
-    }
 }
 
 // Steps a board once: writes the next pattern, ring included, into exactly (w + 2) × (h + 2) bytes. Refusals 1, 2, 5, 11, 10.
@@ -42,7 +28,7 @@ pub fn step(w: usize, h: usize, cells: &[u8], ring: &mut [u8]) -> Check
     if ring.len() != (w + 2) * (h + 2) {
         return Check::Refused(Refusal::ShortOutput);
     }
-    let next = table::conway();
+    let next = rule::table::conway();
     plane::write_step(&next, w, h, cells, ring);
     Check::Passed
 }
@@ -54,6 +40,6 @@ pub fn judge(w: usize, h: usize, cells: &[u8]) -> Verdict
     if let Check::Refused(r) = board::check_board(w, h, cells) {
         return Verdict::Refused(r);
     }
-    let next = table::conway();
+    let next = rule::table::conway();
     plane::first_change(&next, w, h, cells)
 }

@@ -6,7 +6,7 @@ ghost use Prim.Native.Nat.{_+_, _*_, _<_, _≤_};
 ghost use lib.IntN.{pos, predℤ};
 ghost use lib.ListN.{length};
 ghost use Rattle.board.specs.Boards.{Board};
-ghost use Rattle.life.specs.Rule.{entryOf};
+ghost use Rattle.rule.specs.Rule.{entryOf};
 ghost use Rattle.life.specs.Plane.{onPlane, three, around};
 ghost use Rattle.life.specs.Calls.{verdictSays, judged, stepped, ringSize};
 

@@ -32,7 +32,7 @@ fn known_boards() {
 
 // The table's entries for some patterns.
 fn patterns() {
-    let next = life::table::conway();
+    let next = rule::table::conway();
     report::line(b"pattern 7: ", next[7] as usize);
     report::line(b"pattern 16: ", next[16] as usize);
     report::line(b"pattern 511: ", next[511] as usize);

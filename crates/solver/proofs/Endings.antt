@@ -18,7 +18,7 @@ use Rattle.elimination.specs.Kind.{Kind}
 use Rattle.elimination.specs.Endings.{Ending, Laws, total}
 use Rattle.elimination.proofs.Endings.{total-none, total-more}
 use Rattle.elimination.proofs.Sums.{sums-lawful}
-use Rattle.life.specs.Rule.{conway}
+use Rattle.rule.specs.Rule.{conway}
 use Rattle.life.specs.Rows.{rowOf, digitIn, agree, RowsAgree}
 use Rattle.life.proofs.OnPlane.{place-within}
 use Rattle.life.proofs.Theorems.{rows-life}

@@ -16,7 +16,7 @@ use Rattle.elimination.specs.Kind.{offerIf, choose, entry, worthOf}
 use Rattle.elimination.specs.Sums.{sumKind}
 use Rattle.elimination.proofs.Kind.{entry-last, entry-more}
 use Rattle.life.specs.Plane.{nine}
-use Rattle.life.specs.Rule.{Conway, conway, entryOf}
+use Rattle.rule.specs.Rule.{Conway, conway, entryOf}
 use Rattle.life.specs.Rows.{cellOf, becomes, stepsTo, agree}
 use Rattle.solver.specs.Rows.{rowKept}
 use Rattle.solver.specs.ScoreTable.{rules, kindBy, kindOf, placeOf, readsFrom, readsOf, choiceOf}

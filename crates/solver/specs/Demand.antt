@@ -7,7 +7,7 @@ use Prim.Native.Nat.{ℕ, _+_, _-_, _*_, _≤_, _<_, min}
 use lib.ListN.{length, getD}
 use Rattle.board.specs.Answers.{Answer, gives, refuses, passed}
 use Rattle.elimination.specs.Kind.{rightEntry}
-use Rattle.life.specs.Rule.{conway}
+use Rattle.rule.specs.Rule.{conway}
 use Rattle.solver.specs.Grid.{Solution, Optimal, population}
 use Rattle.solver.specs.ScoreTable.{kindOf}
 use Rattle.solver.specs.Jobs.{tableSize, boardLength, noneLength, numbersOf, jobSays, checkpointSays, checkpointFits, jobFits, jobOf, pauseRule, resumeRule, workCheck, unfinished, finished, infeasible}

@@ -8,7 +8,7 @@ use Prim.Native.Nat.{ℕ, zero, suc, _+_, _-_, _^_, _≤_, _<_}
 use Rattle.board.specs.Boards.{Sized, Board}
 use Rattle.elimination.specs.Kind.{entry, rightEntry, rightRows}
 use Rattle.elimination.specs.Endings.{Ending}
-use Rattle.life.specs.Rule.{conway}
+use Rattle.rule.specs.Rule.{conway}
 use Rattle.life.specs.Rows.{rowOf}
 use Rattle.solver.specs.Grid.{Solution, Optimal, population}
 use Rattle.solver.specs.Rows.{live}

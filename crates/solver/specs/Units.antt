@@ -7,7 +7,7 @@ use lib.Dec.{eqb, ltb}
 use lib.ListN.{set}
 use Rattle.elimination.specs.Candidates.{Choice, nothing, chosen}
 use Rattle.elimination.specs.Kind.{choose, entry}
-use Rattle.life.specs.Rule.{conway}
+use Rattle.rule.specs.Rule.{conway}
 use Rattle.solver.specs.Rows.{live, written}
 use Rattle.solver.specs.ScoreTable.{kindOf, placeOf, readsOf}
 use Rattle.solver.specs.Jobs.{tableSize}

@@ -3,7 +3,7 @@ use crate::rows;
 ghost use mathlib.Core.Path.{_≡_};
 ghost use Prim.Native.Nat.{_+_, _<_, _≤_, _^_};
 ghost use lib.ListN.{length};
-ghost use Rattle.life.specs.Rule.{entryOf};
+ghost use Rattle.rule.specs.Rule.{entryOf};
 ghost use Rattle.elimination.specs.Kind.{choose};
 ghost use Rattle.solver.specs.ScoreTable.{kindBy, readsFrom};
 ghost use Rattle.solver.specs.Inner.{skipTo, Found};

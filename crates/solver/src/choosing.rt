@@ -6,7 +6,7 @@ use crate::best::Best;
 use crate::filling;
 use crate::numbers;
 use crate::rows;
-ghost use Rattle.life.specs.Rule.{Conway};
+ghost use Rattle.rule.specs.Rule.{Conway};
 ghost use Rattle.solver.specs.Inner.{Chooses, Chosen};
 
 // What a unit comes to: the next job, or no row can be chosen after row 1.

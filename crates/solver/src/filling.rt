@@ -5,7 +5,7 @@ use crate::rows;
 ghost use mathlib.Core.Path.{_≡_};
 ghost use Prim.Native.Nat.{_<_, _≤_};
 ghost use lib.ListN.{set};
-ghost use Rattle.life.specs.Rule.{Conway};
+ghost use Rattle.rule.specs.Rule.{Conway};
 ghost use Rattle.solver.specs.Units.{unitPlace, unitEntry};
 ghost use Rattle.solver.specs.Inner.{Fills, layerSize};
 

@@ -2,7 +2,7 @@
 ghost use mathlib.Core.Path.{_≡_};
 ghost use Prim.Native.Nat.{_+_, _<_, _≤_, _^_};
 ghost use lib.ListN.{length};
-ghost use Rattle.life.specs.Rule.{entryOf};
+ghost use Rattle.rule.specs.Rule.{entryOf};
 ghost use Rattle.life.specs.Rows.{window, becomes, agree};
 ghost use Rattle.solver.specs.Rows.{live, markKept, rowKept, written};
 

@@ -11,7 +11,7 @@ use board::Check;
 use board::Refusal;
 ghost use mathlib.Core.Path.{_≡_};
 ghost use Rattle.board.specs.Answers.{checkSays};
-ghost use Rattle.life.specs.Rule.{Conway};
+ghost use Rattle.rule.specs.Rule.{Conway};
 ghost use Rattle.solver.specs.Jobs.{workCheck, stageSays, statusSays};
 ghost use Rattle.solver.specs.Calls.{resultOf, worksOn};
 ghost use Rattle.solver.specs.Inner.{Lent, Moves, hasEnded, lentState};
@@ -135,7 +135,7 @@ pub fn work_on(
     requires { ⌜ Lent start (now givens) (now table) (now board) ⌝ }
     ensures { λ r. ⌜ resultOf r (now (table .exit)) (now (board .exit)) ≡ worksOn (now (givens .entry)) allowance (lentState start (now (table .entry)) (now (board .entry))) ⌝ }
 {
-    let next = life::table::conway();
+    let next = rule::table::conway();
     let mut job = start;
     let mut left = allowance;
     loop {

@@ -7,7 +7,7 @@ use Rattle.board.specs.Boards.{Board}
 use Rattle.board.specs.Checks.{boardCheck}
 use Rattle.board.proofs.Answers.{turned-away, let-through}
 use Rattle.board.proofs.Checks.{boarded}
-use Rattle.life.specs.Rule.{conway}
+use Rattle.rule.specs.Rule.{conway}
 use Rattle.life.specs.Calls.{judgeRule}
 use Rattle.life.proofs.Same.{judged-same}
 use Rattle.life.proofs.judge.Statement.{statement}

@@ -10,7 +10,7 @@ use Rattle.board.specs.Boards.{Board}
 use Rattle.board.specs.Checks.{boardCheck}
 use Rattle.board.proofs.Answers.{turned-away, refused-keeps, let-through}
 use Rattle.board.proofs.Checks.{boarded}
-use Rattle.life.specs.Rule.{conway}
+use Rattle.rule.specs.Rule.{conway}
 use Rattle.life.specs.Calls.{stepRule, stepWrites}
 use Rattle.life.proofs.Same.{stepped-same}
 use Rattle.life.proofs.step.Statement.{statement}

@@ -12,7 +12,7 @@ use borrow.Author.Tests.{not-true, not-false}
 use lib.ListN.{length, getD}
 use Rattle.board.specs.Search.{allBelow}
 use Rattle.board.proofs.Search.{all-none, all-more}
-use Rattle.life.specs.Rule.{entryOf}
+use Rattle.rule.specs.Rule.{entryOf}
 use Rattle.life.specs.Rows.{becomes, stepsTo, agree}
 use Rattle.solver.specs.ScoreTable.{readsFrom}
 use Rattle.solver.specs.Inner.{skipTo}

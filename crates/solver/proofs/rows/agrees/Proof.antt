@@ -7,7 +7,7 @@ use native.Mathlib.Omega.{arith}
 use borrow.Author.Tests.{not-true, not-false}
 use Rattle.board.specs.Search.{allBelow}
 use Rattle.board.proofs.Search.{all-none, all-more, all-false}
-use Rattle.life.specs.Rule.{entryOf}
+use Rattle.rule.specs.Rule.{entryOf}
 use Rattle.life.specs.Rows.{becomes, stepsTo}
 use borrow.Author.Needs.{needs}
 use Rattle.solver.proofs.rows.agrees.Statement.{statement}

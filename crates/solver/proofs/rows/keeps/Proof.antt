@@ -1,7 +1,7 @@
 -- `solver::rows::keeps` meets its contract: the pattern by windows is the pattern by cells, and its middle digit is the cell of b.
 -- Assumes nothing.
 use borrow.Author.Needs.{needs}
-use Rattle.life.specs.Rule.{entryOf}
+use Rattle.rule.specs.Rule.{entryOf}
 use Rattle.solver.proofs.Columns.{becomes-is}
 use Rattle.solver.proofs.rows.keeps.Statement.{statement}
 use Rattle.solver.proofs.rows.keeps.Tie as tie

@@ -1,6 +1,6 @@
 // The next state of the centre of each 3 by 3 pattern of cells.
 // A pattern is a number of nine binary digits: top left worth 256, centre 16, bottom right 1.
-ghost use Rattle.life.specs.Rule.{Conway};
+ghost use Rattle.rule.specs.Rule.{Conway};
 
 const NEXT: [u8; 512] = [
     0,

@@ -9,9 +9,9 @@ use lib.Dec.{T, eqb, eqb→eq}
 use lib.ListN.{length, getD}
 use Rattle.board.specs.Sums.{total}
 use Rattle.board.proofs.Sums.{total-same}
-use Rattle.life.specs.Rule.{Conway, conway, entryOf, unchanged, digit}
-use Rattle.life.specs.Theorems.{Counts}
-use Rattle.life.proofs.Every.{every, at}
+use Rattle.rule.specs.Rule.{Conway, conway, entryOf, unchanged, digit}
+use Rattle.rule.specs.Theorems.{Counts}
+use Rattle.rule.proofs.Every.{every, at}
 
 -- entry p is Life's next state of pattern p
 unfoldable pub right : ℕ → ℕ → Bool

@@ -1,12 +1,12 @@
--- `life::next_state` meets its contract: each arm picks its case of the rule.
+-- `rule::next_state` meets its contract: each arm picks its case of the rule.
 -- Assumes nothing.
 use mathlib.Core.Path.{_≡_}
 use Prim.Native.Nat.{ℕ, _≤_, _<_}
 use native.Mathlib.Omega.{arith}
 use borrow.Author.Tests.{le-leb, lt-leb, ne-eqb}
-use Rattle.life.specs.Rule.{nextState}
-use Rattle.life.proofs.next_state.Statement.{statement}
-use Rattle.life.proofs.next_state.Tie as tie
+use Rattle.rule.specs.Rule.{nextState}
+use Rattle.rule.proofs.next_state.Statement.{statement}
+use Rattle.rule.proofs.next_state.Tie as tie
 
 returns : tie.Need-returns
 returns c = rw (c .match .keys1)
