@@ -1,6 +1,11 @@
 // Calls of the solver over parts of the memory, and their answers.
+use crate::memory;
+use crate::memory::Memory;
+use crate::plain;
 use crate::plain::Best;
+use crate::sizes::Size;
 use board::Refusal;
+use solver::Checkpoint;
 use solver::Job;
 use solver::Opened;
 use solver::Paused;
@@ -8,6 +13,7 @@ use solver::Resumed;
 use solver::Stage;
 use solver::Status;
 use solver::Worked;
+use std::num;
 ghost use Prim.Native.Nat.{_≤_};
 
 // How much of the memory a working call is lent: the first places of the givens, the table and the board.
@@ -17,12 +23,54 @@ pub struct Lent {
     pub board: usize,
 }
 
+// What a call of a size is lent; a table longer than it needs.
+pub fn exact(s: Size) -> Lent {
+    Lent {
+        givens: s.cells,
+        table: num::wrapping_add_usize(s.entries, 8),
+        board: s.cells,
+    }
+}
+
 pub fn open(w: usize, h: usize, givens: &[u8], n: usize) -> Opened {
     let g = least(n, givens.len());
     solver::open(w, h, &givens[..g])
 }
 
-pub fn work(
+// A grid's job; one of no size where opening is refused, which no working call takes.
+pub fn opened(s: Size, givens: &[u8]) -> Job {
+    match open(s.w, s.h, givens, s.cells) {
+        Opened::Ready(job) => job,
+        Opened::Refused(_) => Job {
+            width: 0,
+            height: 0,
+            units: 0,
+            stage: Stage::Filling,
+        },
+    }
+}
+
+// A working call's answer, and the memory that it leaves.
+pub struct After {
+    pub status: Status,
+    pub job: Job,
+    pub memory: Memory,
+}
+
+pub fn work(job: Job, lent: Lent, givens: &[u8], memory: Memory, allowance: u32) -> After {
+    let mut table = memory.table;
+    let mut board = memory.board;
+    let r = work_over(job, lent, givens, &mut table, &mut board, allowance);
+    let status = r.status;
+    let next = r.job;
+    After {
+        status,
+        job: next,
+        memory: Memory { table, board },
+    }
+}
+
+fn work_over(
     job: Job,
     lent: Lent,
     givens: &[u8],
@@ -42,70 +90,65 @@ pub fn least(a: usize, b: usize) -> usize
     if a < b { a } else { b }
 }
 
-// A job that was paused and resumed, and whether it is the same in every field.
-pub struct Again {
-    pub job: Job,
-    pub same: bool,
-}
-
-pub fn pause_and_resume(job: Job) -> Again {
+// Whether a job that is paused and resumed is the same in every field.
+pub fn resumes(job: Job) -> bool {
     let Paused::Numbers(numbers) = job.pause() else {
-        return Again { job, same: false };
+        return false;
     };
     let Resumed::Ready(next) = numbers.resume() else {
-        return Again { job, same: false };
+        return false;
     };
-    Again {
-        job: next,
-        same: same_job(job, next),
-    }
+    same_job(job, next)
 }
 
-// A stage as numbers.
-struct Numbers {
-    stage: usize,
-    above: usize,
-    last: usize,
-    live: usize,
-}
-
-fn stage_numbers(stage: Stage) -> Numbers {
+// The seven numbers of a job.
+pub fn numbers_of(job: Job) -> Checkpoint {
+    let stage = job.stage;
     match stage {
-        Stage::Filling => Numbers {
-            stage: 0,
-            above: 0,
-            last: 0,
-            live: 0,
-        },
-        Stage::Choosing { above, last, live } => Numbers {
-            stage: 1,
-            above,
-            last,
-            live,
-        },
-        Stage::Finished { above, last, score } => Numbers {
-            stage: 2,
-            above,
-            last,
-            live: score,
-        },
-        Stage::Infeasible => Numbers {
-            stage: 3,
-            above: 0,
-            last: 0,
-            live: 0,
-        },
+        Stage::Filling => running(job, 0, 0, 0, 0),
+        Stage::Choosing { above, last, live } => running(job, above, last, live, 0),
+        Stage::Finished { above, last, score } => running(job, above, last, score, 1),
+        Stage::Infeasible => running(job, 0, 0, 0, 2),
     }
 }
 
+fn running(job: Job, above: usize, last: usize, live: usize, mark: usize) -> Checkpoint {
+    Checkpoint {
+        width: job.width,
+        height: job.height,
+        units: job.units,
+        above,
+        last,
+        live,
+        mark,
+    }
+}
+
+pub fn same_numbers(a: Checkpoint, b: Checkpoint) -> bool {
+    let sizes = a.width == b.width && a.height == b.height && a.units == b.units;
+    let rows = a.above == b.above && a.last == b.last && a.live == b.live;
+    sizes && rows && a.mark == b.mark
+}
+
+// Filling and choosing row 1 have the same numbers but the units.
 pub fn same_job(a: Job, b: Job) -> bool {
     let s = a.stage;
     let t = b.stage;
-    let x = stage_numbers(s);
-    let y = stage_numbers(t);
-    let sizes = a.width == b.width && a.height == b.height && a.units == b.units;
-    let rows = x.above == y.above && x.last == y.last && x.live == y.live;
-    sizes && rows && x.stage == y.stage
+    same_numbers(numbers_of(a), numbers_of(b)) && is_filling(s) == is_filling(t)
+}
+
+fn is_filling(stage: Stage) -> bool {
+    match stage {
+        Stage::Filling => true,
+        _ => false,
+    }
+}
+
+// Whether a working call handed back its job and its memory as they were.
+pub fn is_unaltered(job: Job, m: Memory, r: After) -> bool {
+    let next = r.job;
+    let left = r.memory;
+    same_job(job, next) && memory::same(m, left, memory::ENTRIES, memory::CELLS)
 }
 
 pub fn is_unfinished(status: Status) -> bool {
@@ -125,6 +168,13 @@ pub fn is_answer(status: Status, best: Best) -> bool {
         Status::Infeasible => !best.found,
         Status::Refused(_) => false,
     }
+}
+
+// Whether a working call ended a job as enumeration found.
+pub fn is_end(s: Size, best: Best, r: After) -> bool {
+    let status = r.status;
+    let job = r.job;
+    is_answer(status, best) && job.units == plain::length(s, best)
 }
 
 // Whether a working call was refused, by a number, and a place where 4 gives one.

@@ -1,18 +1,18 @@
-// Forged numbers: jobs resumed over leftovers against a plain second implementation, and which numbers are taken.
+// Forged numbers: jobs resumed over leftovers against a plain second implementation.
 use crate::calls;
+use crate::calls::After;
 use crate::marks;
 use crate::memory;
-use crate::pieces;
+use crate::memory::Memory;
 use crate::random;
 use crate::sizes;
 use crate::sizes::Size;
 use crate::unit;
-use crate::unit::Run;
+use crate::unit::Ran;
 use solver::Checkpoint;
 use solver::Job;
 use solver::Resumed;
 use solver::Status;
-use solver::Worked;
 use std::num;
 
 // What was tried of forged jobs.
@@ -24,22 +24,17 @@ struct Tally {
     wrong: usize,
 }
 
-// A job of the library and the same of the second implementation, between two calls.
+// A job of the library, and its numbers in the second implementation, between two calls; the memory is the same for both.
 struct Pair {
     job: Job,
-    run: Run,
+    numbers: Checkpoint,
+    memory: Memory,
     tally: Tally,
     differs: bool,
 }
 
 // Forged jobs, each with its leftovers.
-pub fn try_jobs(
-    givens: &mut [u8],
-    table: &mut [u16],
-    board: &mut [u8],
-    table2: &mut [u16],
-    board2: &mut [u8],
-) {
+pub fn try_jobs() {
     let mut t = Tally {
         calls: 0,
         spoiled: 0,
@@ -48,9 +43,12 @@ pub fn try_jobs(
         wrong: 0,
     };
     for k in 0..6000 {
-        let seed = num::wrapping_add_usize(k, 3000000);
-        t = try_job(seed, t, givens, table, board, table2, board2);
+        t = try_job(k + 3000000, t);
     }
+    print(t);
+}
+
+fn print(t: Tally) {
     report::line(b"forged jobs: ", 6000);
     report::line(b"  working calls: ", t.calls);
     report::line(b"  refused for a spoiled table: ", t.spoiled);
@@ -59,63 +57,27 @@ pub fn try_jobs(
     report::line(b"  differences from a plain unit: ", t.wrong);
 }
 
-fn try_job(
-    seed: usize,
-    t: Tally,
-    givens: &mut [u8],
-    table: &mut [u16],
-    board: &mut [u8],
-    table2: &mut [u16],
-    board2: &mut [u8],
-) -> Tally {
+// Resumes a running job of random numbers, and tries it.
+fn try_job(seed: usize, t: Tally) -> Tally {
     let s = random_size(seed);
-    marks::write_random(givens, s.cells, seed);
-    memory::spoil(table, board, seed);
-    memory::spoil(table2, board2, seed);
-    resumed(s, seed, t, givens, table, board, table2, board2)
-}
-
-// Resumes a running job of random numbers.
-fn resumed(
-    s: Size,
-    seed: usize,
-    t: Tally,
-    givens: &[u8],
-    table: &mut [u16],
-    board: &mut [u8],
-    table2: &mut [u16],
-    board2: &mut [u8],
-) -> Tally {
-    let run = random_run(s, seed);
-    let numbers = Checkpoint {
-        width: s.w,
-        height: s.h,
-        units: run.units,
-        above: run.above,
-        last: run.last,
-        live: run.live,
-        mark: 0,
-    };
+    let numbers = random_numbers(s, seed);
     let Resumed::Ready(job) = numbers.resume() else {
-        return differs(b"a job that resuming refuses", s, t, givens);
+        return differs(b"a job that resuming refuses", t);
     };
     let start = Pair {
         job,
-        run,
+        numbers,
+        memory: memory::spoiled(seed),
         tally: t,
         differs: false,
     };
-    try_calls(s, seed, start, givens, table, board, table2, board2)
+    try_calls(s, seed, start)
 }
 
-fn differs(what: &[u8], s: Size, t: Tally, givens: &[u8]) -> Tally {
-    Tally {
-        calls: t.calls,
-        spoiled: t.spoiled,
-        finished: t.finished,
-        none: t.none,
-        wrong: num::wrapping_add_usize(t.wrong, marks::difference(what, s, givens)),
-    }
+fn differs(what: &[u8], t: Tally) -> Tally {
+    let mut next = t;
+    next.wrong = num::wrapping_add_usize(t.wrong, marks::difference(what));
+    next
 }
 
 // A size whose table fits the memory.
@@ -131,43 +93,44 @@ fn random_size(seed: usize) -> Size {
     sizes::sized(w, num::wrapping_add_usize(h, 1))
 }
 
-// Numbers of a running job: near the end of filling, anywhere in it, or choosing.
-fn random_run(s: Size, seed: usize) -> Run {
-    let rest = match random::below(4, seed, 500003) {
-        0 => random::below(s.entries, seed, 500004),
-        1 => random::below(calls::least(s.entries, 40), seed, 500004),
-        _ => s.entries,
+// Numbers of a running job: anywhere in filling, near its end, or choosing.
+fn random_numbers(s: Size, seed: usize) -> Checkpoint {
+    let most = match random::below(4, seed, 500003) {
+        0 => s.entries,
+        1 => calls::least(s.entries, 40),
+        _ => 0,
     };
-    if rest < s.entries {
-        return Run {
-            units: num::wrapping_sub_usize(s.entries, num::wrapping_add_usize(rest, 1)),
-            above: 0,
-            last: 0,
-            live: 0,
-            mark: 0,
-        };
+    if most == 0 {
+        return choosing(s, seed);
     }
+    let rest = num::wrapping_add_usize(random::below(most, seed, 500004), 1);
+    Checkpoint {
+        width: s.w,
+        height: s.h,
+        units: num::wrapping_sub_usize(s.entries, rest),
+        above: 0,
+        last: 0,
+        live: 0,
+        mark: 0,
+    }
+}
+
+fn choosing(s: Size, seed: usize) -> Checkpoint {
     let k = random::below(s.h, seed, 500005);
     let n = sizes::rows(s.w);
     let most = num::wrapping_add_usize(sizes::times(s.w, k), 1);
-    Run {
+    Checkpoint {
+        width: s.w,
+        height: s.h,
         units: num::wrapping_add_usize(s.entries, k),
-        above: if k < 2 {
-            0
-        } else {
-            random_row(n, seed, 500006)
-        },
-        last: if k < 1 {
-            0
-        } else {
-            random_row(n, seed, 500008)
-        },
+        above: random_row(if k < 2 { 1 } else { n }, seed, 500006),
+        last: random_row(if k < 1 { 1 } else { n }, seed, 500008),
         live: random::below(most, seed, 500010),
         mark: 0,
     }
 }
 
-// Any row, or the dead one, below which more rows agree.
+// Any of the first n rows, or the dead one, below which more rows agree.
 fn random_row(n: usize, seed: usize, place: usize) -> usize {
     if random::below(2, seed, place) == 0 {
         return 0;
@@ -176,127 +139,86 @@ fn random_row(n: usize, seed: usize, place: usize) -> usize {
 }
 
 // Calls until one differs, six at most.
-fn try_calls(
-    s: Size,
-    seed: usize,
-    start: Pair,
-    givens: &[u8],
-    table: &mut [u16],
-    board: &mut [u8],
-    table2: &mut [u16],
-    board2: &mut [u8],
-) -> Tally {
+fn try_calls(s: Size, seed: usize, start: Pair) -> Tally {
+    let mut givens = [0u8; memory::CELLS];
+    marks::write_random(&mut givens, s.cells, seed);
     let mut p = start;
     for k in 0..6 {
-        p = try_call(s, seed, k, p, givens, table, board, table2, board2);
+        p = try_call(s, random::allowance(s.entries, seed, k + 600000), givens, p);
     }
     p.tally
 }
 
-fn try_call(
-    s: Size,
-    seed: usize,
-    k: usize,
-    p: Pair,
-    givens: &[u8],
-    table: &mut [u16],
-    board: &mut [u8],
-    table2: &mut [u16],
-    board2: &mut [u8],
-) -> Pair {
+fn try_call(s: Size, allowance: u32, givens: [u8; memory::CELLS], p: Pair) -> Pair {
     if p.differs {
         return p;
     }
-    let place = num::wrapping_add_usize(k, 600000);
-    let allowance = random::allowance(s.entries, seed, place);
     let job = p.job;
-    let r = calls::work(job, pieces::exact(s), givens, table, board, allowance);
-    second_call(s, p, r, allowance, givens, table, board, table2, board2)
-}
-
-// The same call of the second implementation.
-fn second_call(
-    s: Size,
-    p: Pair,
-    r: Worked,
-    allowance: u32,
-    givens: &[u8],
-    table: &[u16],
-    board: &[u8],
-    table2: &mut [u16],
-    board2: &mut [u8],
-) -> Pair {
-    let start = p.run;
-    let run = unit::work(s, start, givens, table2, board2, allowance);
-    let t = counted(p.tally, run);
-    compared(s, t, r, run, givens, table, board, table2, board2)
+    let before = p.memory;
+    let r = calls::work(job, calls::exact(s), &givens, before, allowance);
+    let numbers = p.numbers;
+    let r2 = unit::work(numbers, &givens, before, allowance);
+    let next = compared(p.tally, r, r2);
+    if next.differs {
+        marks::print_grid(s, givens);
+    }
+    next
 }
 
 // The pair after a call of both.
-fn compared(
-    s: Size,
-    t: Tally,
-    r: Worked,
-    run: Run,
-    givens: &[u8],
-    table: &[u16],
-    board: &[u8],
-    table2: &[u16],
-    board2: &[u8],
-) -> Pair {
-    let answers = is_same(s, r, run);
-    let tables = memory::same_entries(table, table2, memory::ENTRIES);
-    let boards = memory::same_cells(board, board2, memory::CELLS);
+fn compared(t: Tally, r: After, r2: Ran) -> Pair {
     let job = r.job;
-    if answers && tables && boards {
-        return Pair {
-            job,
-            run: standing(run),
-            tally: t,
-            differs: false,
-        };
-    }
+    let left = r.memory;
+    let numbers = r2.numbers;
+    let left2 = r2.memory;
+    let same = is_same(r, numbers) && memory::same(left, left2, memory::ENTRIES, memory::CELLS);
+    let tally = counted(t, numbers.mark);
     Pair {
         job,
-        run,
-        tally: differs(b"a call on a forged job", s, t, givens),
-        differs: true,
+        numbers: standing(numbers),
+        memory: left,
+        tally: if same {
+            tally
+        } else {
+            differs(b"a call on a forged job", tally)
+        },
+        differs: !same,
     }
 }
 
 // A job whose table was found spoiled stands before the row, and runs on.
-fn standing(run: Run) -> Run {
-    Run {
-        units: run.units,
-        above: run.above,
-        last: run.last,
-        live: run.live,
-        mark: if run.mark == 3 { 0 } else { run.mark },
+fn standing(c: Checkpoint) -> Checkpoint {
+    let mut next = c;
+    if c.mark == 3 {
+        next.mark = 0;
     }
+    next
 }
 
-fn counted(t: Tally, run: Run) -> Tally {
-    Tally {
-        calls: num::wrapping_add_usize(t.calls, 1),
-        spoiled: num::wrapping_add_usize(t.spoiled, if run.mark == 3 { 1 } else { 0 }),
-        finished: num::wrapping_add_usize(t.finished, if run.mark == 1 { 1 } else { 0 }),
-        none: num::wrapping_add_usize(t.none, if run.mark == 2 { 1 } else { 0 }),
-        wrong: t.wrong,
+fn counted(t: Tally, mark: usize) -> Tally {
+    let mut next = t;
+    next.calls = num::wrapping_add_usize(t.calls, 1);
+    match mark {
+        1 => next.finished = num::wrapping_add_usize(t.finished, 1),
+        2 => next.none = num::wrapping_add_usize(t.none, 1),
+        3 => next.spoiled = num::wrapping_add_usize(t.spoiled, 1),
+        _ => {}
     }
+    next
 }
 
 // Whether a working call answers with the job and the status that the second implementation comes to.
-fn is_same(s: Size, r: Worked, run: Run) -> bool {
+fn is_same(r: After, c: Checkpoint) -> bool {
     let job = r.job;
     let status = r.status;
-    calls::same_job(job, unit::job_of(s, run)) && is_status(status, run)
+    calls::same_job(job, unit::job_of(c)) && is_status(status, c.mark, c.live)
 }
 
-fn is_status(status: Status, run: Run) -> bool {
+fn is_status(status: Status, mark: usize, live: usize) -> bool {
     match status {
-        Status::Unfinished => run.mark == 0,
-        Status::Finished(score) => run.mark == 1 && score == run.live,
-        Status::Infeasible => run.mark == 2,
-        Status::Refused(r) => run.mark == 3 && r.number() == 9,
+        Status::Unfinished => mark == 0,
+        Status::Finished(score) => mark == 1 && score == live,
+        Status::Infeasible => mark == 2,
+        Status::Refused(r) => mark == 3 && r.number() == 9,
     }
 }

@@ -14,31 +14,16 @@ mod sizes;
 mod unit;
 
 fn main() {
-    let mut still = [0u8; 65536];
-    let mut givens = [0u8; memory::CELLS];
-    let mut table = [0u16; memory::ENTRIES];
-    let mut board = [0u8; memory::CELLS];
-    let mut table2 = [0u16; memory::ENTRIES];
-    let mut board2 = [0u8; memory::CELLS];
-    grids::try_all(
-        &mut still,
-        &mut givens,
-        &mut table,
-        &mut board,
-        &mut table2,
-        &mut board2,
-    );
-    forged::try_jobs(
-        &mut givens,
-        &mut table,
-        &mut board,
-        &mut table2,
-        &mut board2,
-    );
+    grids::try_all();
+    forged::try_jobs();
     numbers::try_all();
-    refusals::openings();
-    refusals::workings();
+    refusals::sized_openings();
+    refusals::given_openings();
+    refusals::large_openings();
+    refusals::job_workings();
+    refusals::given_workings();
     refusals::lendings();
-    refusals::tickets();
+    refusals::resumptions();
+    refusals::pauses();
     refusals::spoiled();
 }

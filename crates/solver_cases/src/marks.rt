@@ -31,17 +31,22 @@ fn random_mark(most: usize, seed: usize, place: usize) -> usize {
     0
 }
 
-// Prints a difference with its grid, and counts it.
-pub fn difference(what: &[u8], s: Size, givens: &[u8]) -> usize {
+// Prints a difference, and counts it.
+pub fn difference(what: &[u8]) -> usize {
     report::text(b"difference: ");
     report::text(what);
-    report::text(b", ");
+    report::text(b"\n");
+    1
+}
+
+// Prints the grid of a difference.
+pub fn print_grid(s: Size, givens: [u8; memory::CELLS]) {
+    report::text(b"  grid: ");
     report::number(s.w);
     report::text(b" by ");
     report::number(s.h);
     report::text(b", givens ");
-    write_marks(givens, s.cells);
-    1
+    write_marks(&givens, s.cells);
 }
 
 fn write_marks(givens: &[u8], cells: usize) {

@@ -1,4 +1,5 @@
-// The lent memory: leftovers to start with, and what a call left of them.
+// The memory that calls are lent: leftovers to start with, and what a call left of them.
+use crate::calls;
 use crate::random;
 use std::num;
 
@@ -6,6 +7,11 @@ use std::num;
 pub const ENTRIES: usize = 1100;
 
 pub const CELLS: usize = 128;
+
+pub struct Memory {
+    pub table: [u16; ENTRIES],
+    pub board: [u8; CELLS],
+}
 
 // An entry before any call: a number that counts, the greatest such, one that counts as none, or none.
 fn leftover(seed: usize, k: usize) -> u16 {
@@ -26,10 +32,13 @@ fn leftover_cell(seed: usize, k: usize) -> u8 {
     (random::below(254, seed, num::wrapping_add_usize(k, 100000)) % 254 + 2) as u8
 }
 
-// Fills the memory with leftovers.
-pub fn spoil(table: &mut [u16], board: &mut [u8], seed: usize) {
-    spoil_table(table, seed);
-    spoil_board(board, seed);
+// Leftovers alone.
+pub fn spoiled(seed: usize) -> Memory {
+    let mut table = [0u16; ENTRIES];
+    let mut board = [0u8; CELLS];
+    spoil_table(&mut table, seed);
+    spoil_board(&mut board, seed);
+    Memory { table, board }
 }
 
 fn spoil_table(table: &mut [u16], seed: usize) {
@@ -44,94 +53,54 @@ fn spoil_board(board: &mut [u8], seed: usize) {
     }
 }
 
-// Whether every entry from a place on is as it was spoiled.
-pub fn table_kept(table: &[u16], from: usize, seed: usize) -> bool {
-    for k in from..table.len() {
-        if table[k] != leftover(seed, k) {
-            return false;
-        }
-    }
-    true
+// Whether the memory past the first entries and cells is as it was spoiled.
+pub fn kept(m: Memory, entries: usize, cells: usize, seed: usize) -> bool {
+    let before = spoiled(seed);
+    entries_unlike(m, before, entries, ENTRIES) == 0 && cells_unlike(m, before, cells, CELLS) == 0
 }
 
-// Whether every cell from a place on is as it was spoiled.
-pub fn board_kept(board: &[u8], from: usize, seed: usize) -> bool {
-    for k in from..board.len() {
-        if board[k] != leftover_cell(seed, k) {
-            return false;
-        }
-    }
-    true
+// Whether the first entries and cells are the same.
+pub fn same(a: Memory, b: Memory, entries: usize, cells: usize) -> bool {
+    entries_unlike(a, b, 0, entries) == 0 && cells_unlike(a, b, 0, cells) == 0
 }
 
-// Whether the first n entries are the same.
-pub fn same_entries(a: &[u16], b: &[u16], n: usize) -> bool {
-    if a.len() < n {
-        return false;
-    }
-    if b.len() < n {
-        return false;
-    }
-    for k in 0..n {
-        if a[k] != b[k] {
-            return false;
+// The entries from a place to another that differ.
+pub fn entries_unlike(a: Memory, b: Memory, from: usize, to: usize) -> usize {
+    let end = calls::least(to, ENTRIES);
+    let mut n = 0;
+    for k in from..end {
+        if a.table[k] != b.table[k] {
+            n = num::wrapping_add_usize(n, 1);
         }
     }
-    true
+    n
 }
 
-// Whether the first n cells are the same.
-pub fn same_cells(a: &[u8], b: &[u8], n: usize) -> bool {
-    if a.len() < n {
-        return false;
-    }
-    if b.len() < n {
-        return false;
-    }
-    for k in 0..n {
-        if a[k] != b[k] {
-            return false;
+pub fn cells_unlike(a: Memory, b: Memory, from: usize, to: usize) -> usize {
+    let end = calls::least(to, CELLS);
+    let mut n = 0;
+    for k in from..end {
+        if a.board[k] != b.board[k] {
+            n = num::wrapping_add_usize(n, 1);
         }
     }
-    true
+    n
 }
 
 // Whether the first n cells are the digits of a number.
-pub fn is_board(board: &[u8], n: usize, number: usize) -> bool {
+pub fn is_board(m: Memory, n: usize, number: usize) -> bool {
     let mut rest = number;
     for k in 0..n {
         let p = n - 1 - k;
-        if board.len() <= p {
+        if CELLS <= p {
             return false;
         }
-        if byte(board[p]) != rest % 2 {
+        if byte(m.board[p]) != rest % 2 {
             return false;
         }
         rest = rest / 2;
     }
     true
-}
-
-// A sum of a table's entries that tells any one written, by its place.
-pub fn table_sum(table: &[u16]) -> usize {
-    let mut sum = 1;
-    for k in 0..table.len() {
-        sum = stirred(sum, entry(table[k]));
-    }
-    sum
-}
-
-pub fn board_sum(board: &[u8]) -> usize {
-    let mut sum = 1;
-    for k in 0..board.len() {
-        sum = stirred(sum, byte(board[k]));
-    }
-    sum
-}
-
-// Multiplies modulo a prime.
-fn stirred(sum: usize, x: usize) -> usize {
-    sum % 2147483647 * 48271 % 2147483647 + x % 65536
 }
 
 // A byte at a place, or 0 past the end.

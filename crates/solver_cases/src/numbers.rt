@@ -4,7 +4,6 @@ use crate::random;
 use crate::sizes;
 use crate::sizes::Size;
 use crate::unit;
-use crate::unit::Run;
 use solver::Checkpoint;
 use solver::Job;
 use solver::Paused;
@@ -15,22 +14,17 @@ use std::num;
 // What was tried.
 struct Tally {
     taken: usize,
-    refused: usize,
     wrong: usize,
 }
 
 pub fn try_all() {
-    let mut resumed = Tally {
-        taken: 0,
-        refused: 0,
-        wrong: 0,
-    };
+    let mut resumed = Tally { taken: 0, wrong: 0 };
     let mut paused = resumed;
     for k in 0..50000 {
-        let numbers = random_numbers(num::wrapping_add_usize(k, 4000000));
+        let numbers = random_numbers(k + 4000000);
         resumed = counted(resumed, numbers, unit::takes(numbers), resumes_as(numbers));
         let job = random_job(numbers, k);
-        paused = counted(paused, numbers_of(job), is_job(job), pauses_as(job));
+        paused = counted(paused, calls::numbers_of(job), is_job(job), pauses_as(job));
     }
     print(b"numbers around the rules that resuming takes: ", resumed);
     print(b"jobs around the rules that pausing takes: ", paused);
@@ -38,38 +32,31 @@ pub fn try_all() {
 
 fn print(name: &[u8], t: Tally) {
     report::line(name, t.taken);
-    report::line(b"  refused: ", t.refused);
+    report::line(b"  refused: ", num::wrapping_sub_usize(50000, t.taken));
     report::line(b"  differences from the rules: ", t.wrong);
 }
 
 // An answer: 1 where the numbers were taken and nothing was lost of them, 0 where they were refused, otherwise 2.
 fn counted(t: Tally, numbers: Checkpoint, taken: bool, answer: usize) -> Tally {
-    let right = answer == (if taken { 1 } else { 0 });
-    if !right {
+    let right = if taken { 1 } else { 0 };
+    let mut next = t;
+    next.taken = num::wrapping_add_usize(t.taken, right);
+    if answer != right {
         print_numbers(numbers);
+        next.wrong = num::wrapping_add_usize(t.wrong, 1);
     }
-    Tally {
-        taken: num::wrapping_add_usize(t.taken, if taken { 1 } else { 0 }),
-        refused: num::wrapping_add_usize(t.refused, if taken { 0 } else { 1 }),
-        wrong: num::wrapping_add_usize(t.wrong, if right { 0 } else { 1 }),
-    }
+    next
 }
 
 // Prints a difference with its numbers.
 fn print_numbers(c: Checkpoint) {
-    report::text(b"difference: width ");
-    report::number(c.width);
-    report::text(b", height ");
-    report::number(c.height);
-    report::text(b", units ");
-    report::number(c.units);
-    report::text(b", rows ");
-    report::number(c.above);
-    report::text(b" and ");
-    report::number(c.last);
-    report::text(b", live ");
-    report::number(c.live);
-    report::line(b", mark ", c.mark);
+    report::line(b"difference: width ", c.width);
+    report::line(b"  height ", c.height);
+    report::line(b"  units ", c.units);
+    report::line(b"  row above ", c.above);
+    report::line(b"  last row ", c.last);
+    report::line(b"  live ", c.live);
+    report::line(b"  mark ", c.mark);
 }
 
 fn resumes_as(numbers: Checkpoint) -> usize {
@@ -81,23 +68,12 @@ fn resumes_as(numbers: Checkpoint) -> usize {
             2
         }
         Resumed::Ready(job) => {
-            if pauses_to(job, numbers) && calls::same_job(job, job_of(numbers)) {
+            if pauses_to(job, numbers) && calls::same_job(job, unit::job_of(numbers)) {
                 return 1;
             }
             2
         }
     }
-}
-
-fn job_of(c: Checkpoint) -> Job {
-    let run = Run {
-        units: c.units,
-        above: c.above,
-        last: c.last,
-        live: c.live,
-        mark: c.mark,
-    };
-    unit::job_of(sizes::sized(c.width, c.height), run)
 }
 
 fn pauses_as(job: Job) -> usize {
@@ -109,7 +85,7 @@ fn pauses_as(job: Job) -> usize {
             2
         }
         Paused::Numbers(numbers) => {
-            if same_numbers(numbers, numbers_of(job)) {
+            if calls::same_numbers(numbers, calls::numbers_of(job)) {
                 return 1;
             }
             2
@@ -120,14 +96,8 @@ fn pauses_as(job: Job) -> usize {
 fn pauses_to(job: Job, numbers: Checkpoint) -> bool {
     match job.pause() {
         Paused::Refused(_) => false,
-        Paused::Numbers(back) => same_numbers(back, numbers),
+        Paused::Numbers(back) => calls::same_numbers(back, numbers),
     }
-}
-
-fn same_numbers(a: Checkpoint, b: Checkpoint) -> bool {
-    let sizes = a.width == b.width && a.height == b.height && a.units == b.units;
-    let rows = a.above == b.above && a.last == b.last && a.live == b.live;
-    sizes && rows && a.mark == b.mark
 }
 
 // Whether a job's stage fits its units, and its numbers the rules.
@@ -148,30 +118,7 @@ fn is_job(job: Job) -> bool {
         } => true,
         Stage::Infeasible => true,
     };
-    fits && unit::takes(numbers_of(job))
-}
-
-// The seven numbers of a job.
-fn numbers_of(job: Job) -> Checkpoint {
-    let stage = job.stage;
-    match stage {
-        Stage::Filling => running(job, 0, 0, 0, 0),
-        Stage::Choosing { above, last, live } => running(job, above, last, live, 0),
-        Stage::Finished { above, last, score } => running(job, above, last, score, 1),
-        Stage::Infeasible => running(job, 0, 0, 0, 2),
-    }
-}
-
-fn running(job: Job, above: usize, last: usize, live: usize, mark: usize) -> Checkpoint {
-    Checkpoint {
-        width: job.width,
-        height: job.height,
-        units: job.units,
-        above,
-        last,
-        live,
-        mark,
-    }
+    fits && unit::takes(calls::numbers_of(job))
 }
 
 // A job of some numbers in any stage.

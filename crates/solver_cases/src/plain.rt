@@ -66,21 +66,6 @@ fn is_still(w: usize, h: usize, number: usize) -> bool {
     true
 }
 
-// Marks the still boards of a size, each at its number.
-pub fn mark_still(still: &mut [u8], s: Size) {
-    let count = boards(s.cells);
-    for number in 0..still.len() {
-        still[number] = still_mark(s, count, number);
-    }
-}
-
-fn still_mark(s: Size, count: usize, number: usize) -> u8 {
-    if count <= number {
-        return 0;
-    }
-    if is_still(s.w, s.h, number) { 1 } else { 0 }
-}
-
 // The boards of so many cells.
 fn boards(cells: usize) -> usize {
     1 << (cells % 64)
@@ -95,21 +80,16 @@ pub struct Best {
 }
 
 // The first best still board that keeps the givens: board order is the order of the boards' numbers.
-pub fn best_board(still: &[u8], givens: &[u8], cells: usize) -> Best {
-    let count = boards(cells);
+pub fn best_board(s: Size, givens: &[u8]) -> Best {
+    let end = boards(s.cells);
     let mut best = 0; // one more than the best score, 0 while there is none
     let mut first = 0;
-    for number in 0..still.len() {
-        if count <= number {
-            break;
-        }
-        if still[number] == 1 {
-            if keeps_givens(givens, cells, number) {
-                let v = num::wrapping_add_usize(live(number), 1);
-                if best < v {
-                    best = v;
-                    first = number;
-                }
+    for number in 0..end {
+        let v = num::wrapping_add_usize(live(number), 1);
+        if best < v {
+            if is_solution(s, givens, number) {
+                best = v;
+                first = number;
             }
         }
     }
@@ -118,6 +98,20 @@ pub fn best_board(still: &[u8], givens: &[u8], cells: usize) -> Best {
         score: num::wrapping_sub_usize(best, 1),
         board: first,
     }
+}
+
+fn is_solution(s: Size, givens: &[u8], number: usize) -> bool {
+    keeps_givens(givens, 0, s.cells, number) && is_still(s.w, s.h, number)
+}
+
+// A job's length in units.
+pub fn length(s: Size, best: Best) -> usize {
+    num::wrapping_add_usize(s.entries, if best.found { s.h } else { 1 })
+}
+
+// The cells that a job writes.
+pub fn written(s: Size, best: Best) -> usize {
+    if best.found { s.cells } else { 0 }
 }
 
 // The live cells of a row or a board.
@@ -129,10 +123,11 @@ pub fn wide(x: u32) -> usize {
     x as usize
 }
 
-fn keeps_givens(givens: &[u8], cells: usize, number: usize) -> bool {
+// Whether cells, the digits of a number, keep the marks from a place on; goes from the last cell to the first.
+pub fn keeps_givens(givens: &[u8], from: usize, cells: usize, number: usize) -> bool {
     let mut rest = number;
     for k in 0..cells {
-        let p = cells - 1 - k;
+        let p = num::wrapping_add_usize(from, cells - 1 - k);
         if givens.len() <= p {
             return false;
         }
@@ -144,7 +139,7 @@ fn keeps_givens(givens: &[u8], cells: usize, number: usize) -> bool {
     true
 }
 
-pub fn mark_kept(mark: u8, cell: usize) -> bool {
+fn mark_kept(mark: u8, cell: usize) -> bool {
     if mark == 1 {
         return cell == 0;
     }

@@ -1,5 +1,6 @@
 // A unit of a job, and the rule for its numbers, by document 01 and written apart from the library.
 use crate::memory;
+use crate::memory::Memory;
 use crate::plain;
 use crate::sizes;
 use crate::sizes::Size;
@@ -8,91 +9,108 @@ use solver::Job;
 use solver::Stage;
 use std::num;
 
-// A job's numbers: the mark is 0 running, 1 finished, 2 none, and 3 where no row could be chosen after row 1.
-pub struct Run {
-    pub units: usize,
-    pub above: usize,
-    pub last: usize,
-    pub live: usize,
-    pub mark: usize,
+// A job's numbers, and the memory that its units left. The mark is 3 where no row could be chosen after row 1.
+pub struct Ran {
+    pub numbers: Checkpoint,
+    pub memory: Memory,
+}
+
+pub fn work(start: Checkpoint, givens: &[u8], memory: Memory, allowance: u32) -> Ran {
+    let s = sizes::sized(start.width, start.height);
+    let mut table = memory.table;
+    let mut board = memory.board;
+    let numbers = units(s, start, givens, &mut table, &mut board, allowance);
+    Ran {
+        numbers,
+        memory: Memory { table, board },
+    }
 }
 
 // Units until the allowance is spent, the job ends, or no row can be chosen.
-pub fn work(
+fn units(
     s: Size,
-    start: Run,
+    start: Checkpoint,
     givens: &[u8],
     table: &mut [u16],
     board: &mut [u8],
     allowance: u32,
-) -> Run {
-    let mut run = start;
+) -> Checkpoint {
+    let mut c = start;
     for k in 0..allowance {
-        if run.mark != 0 {
-            return run;
+        if c.mark != 0 {
+            return c;
         }
-        run = one_more(s, run, givens, table, board);
+        c = one_more(s, c, givens, table, board);
     }
-    run
+    c
 }
 
-fn one_more(s: Size, run: Run, givens: &[u8], table: &mut [u16], board: &mut [u8]) -> Run {
-    if run.units < s.entries {
-        return fill(s, run, givens, table);
+fn one_more(
+    s: Size,
+    c: Checkpoint,
+    givens: &[u8],
+    table: &mut [u16],
+    board: &mut [u8],
+) -> Checkpoint {
+    if c.units < s.entries {
+        return fill(s, c, givens, table);
     }
-    choose(s, run, givens, table, board)
+    choose(s, c, givens, table, board)
 }
 
 // Layers from the last one up; in a layer a rises, then b.
-fn fill(s: Size, run: Run, givens: &[u8], table: &mut [u16]) -> Run {
-    let u = run.units;
+fn fill(s: Size, c: Checkpoint, givens: &[u8], table: &mut [u16]) -> Checkpoint {
+    let u = c.units;
     let n = sizes::rows(s.w);
     let i = num::wrapping_sub_usize(s.h, u / sizes::layer(s.w));
     let a = u / n % n;
     let b = u % n;
-    let entry = if i == s.h {
-        last_entry(s.w, a, b)
-    } else {
-        best_below(s, a, b, num::wrapping_add_usize(i, 1), givens, table).sum
-    };
-    store(table, place(s, i, a, b), entry);
-    Run {
-        units: num::wrapping_add_usize(u, 1),
-        above: 0,
-        last: 0,
-        live: 0,
-        mark: 0,
+    let entry = entry_of(s, i, a, b, givens, table);
+    store(table, place(s.w, i, a, b), entry);
+    let mut next = c;
+    next.units = num::wrapping_add_usize(u, 1);
+    next
+}
+
+fn entry_of(s: Size, i: usize, a: usize, b: usize, givens: &[u8], table: &[u16]) -> usize {
+    if i == s.h {
+        return last_entry(s.w, a, b);
     }
+    best_below(s.w, a, b, num::wrapping_add_usize(i, 1), givens, table).sum
 }
 
 // Row k, the first that has none.
-fn choose(s: Size, run: Run, givens: &[u8], table: &[u16], board: &mut [u8]) -> Run {
-    let k = num::wrapping_add_usize(num::wrapping_sub_usize(run.units, s.entries), 1);
-    let best = best_below(s, run.above, run.last, k, givens, table);
-    let next = num::wrapping_add_usize(run.units, 1);
-    if 600 < best.entry {
-        return Run {
-            units: if k == 1 { next } else { run.units },
-            above: run.above,
-            last: run.last,
-            live: run.live,
-            mark: if k == 1 { 2 } else { 3 },
-        };
+fn choose(s: Size, c: Checkpoint, givens: &[u8], table: &[u16], board: &mut [u8]) -> Checkpoint {
+    let before = num::wrapping_sub_usize(c.units, s.entries);
+    let k = num::wrapping_add_usize(before, 1);
+    let best = best_below(s.w, c.above, c.last, k, givens, table);
+    if best.sum == 65535 {
+        return without_row(c, k);
     }
-    let row = best.row;
-    write_row(
-        board,
-        sizes::times(num::wrapping_sub_usize(k, 1), s.w),
-        s.w,
-        row,
-    );
-    Run {
-        units: next,
-        above: run.last,
-        last: row,
-        live: num::wrapping_add_usize(run.live, plain::live(row)),
-        mark: if k == s.h { 1 } else { 0 },
+    write_row(board, sizes::times(before, s.w), s.w, best.row);
+    with_row(c, best.row, k == s.h)
+}
+
+// No row k: the job ends where it is row 1, and otherwise stands before it.
+fn without_row(c: Checkpoint, k: usize) -> Checkpoint {
+    let mut next = c;
+    if k == 1 {
+        next.units = num::wrapping_add_usize(c.units, 1);
+        next.mark = 2;
+    } else {
+        next.mark = 3;
     }
+    next
+}
+
+fn with_row(c: Checkpoint, row: usize, is_last: bool) -> Checkpoint {
+    let mut next = c;
+    next.units = num::wrapping_add_usize(c.units, 1);
+    next.above = c.last;
+    next.last = row;
+    next.live = num::wrapping_add_usize(c.live, plain::live(row));
+    next.mark = if is_last { 1 } else { 0 };
+    next
 }
 
 // An entry of layer h.
@@ -103,39 +121,44 @@ fn last_entry(w: usize, a: usize, b: usize) -> usize {
     if plain::agree(w, b, 0, 0) { 0 } else { 65535 }
 }
 
-// The best row below two: its entry, and its live cells with that, 65,535 for none.
+// The best row below two, and its live cells with its entry, 65,535 for none.
 struct Below {
     row: usize,
-    entry: usize,
     sum: usize,
 }
 
 // The best row k below a over b.
-fn best_below(s: Size, a: usize, b: usize, k: usize, givens: &[u8], table: &[u16]) -> Below {
-    let marks = sizes::times(num::wrapping_sub_usize(k, 1), s.w);
-    let first = place(s, k, b, 0);
-    let end = sizes::rows(s.w);
-    let mut best = Below {
-        row: 0,
-        entry: 65535,
-        sum: 65535,
-    };
+fn best_below(w: usize, a: usize, b: usize, k: usize, givens: &[u8], table: &[u16]) -> Below {
+    let end = sizes::rows(w);
+    let mut best = 0; // one more than the best sum, 0 while there is none
+    let mut row = 0;
     for c in 0..end {
-        let entry = load(table, num::wrapping_add_usize(first, c));
-        let sum = num::wrapping_add_usize(plain::live(c), entry);
-        if entry <= 600 && (600 < best.entry || best.sum < sum) {
-            if keeps_row(s.w, givens, marks, c) && plain::agree(s.w, a, b, c) {
-                best = Below { row: c, entry, sum };
-            }
+        let v = offer(w, a, b, c, k, givens, table);
+        if best < v {
+            best = v;
+            row = c;
         }
     }
-    best
+    Below {
+        row,
+        sum: if best == 0 { 65535 } else { best - 1 },
+    }
+}
+
+// One more than the sum of row c, 0 where it cannot be row k below a over b.
+fn offer(w: usize, a: usize, b: usize, c: usize, k: usize, givens: &[u8], table: &[u16]) -> usize {
+    let entry = load(table, place(w, k, b, c));
+    let marks = sizes::times(num::wrapping_sub_usize(k, 1), w);
+    if entry <= 600 && plain::keeps_givens(givens, marks, w, c) && plain::agree(w, a, b, c) {
+        return num::wrapping_add_usize(num::wrapping_add_usize(plain::live(c), entry), 1);
+    }
+    0
 }
 
 // Where layer i keeps the entry of a over b.
-fn place(s: Size, i: usize, a: usize, b: usize) -> usize {
-    let layers = sizes::times(num::wrapping_sub_usize(i, 1), sizes::layer(s.w));
-    let above = sizes::times(a, sizes::rows(s.w));
+fn place(w: usize, i: usize, a: usize, b: usize) -> usize {
+    let layers = sizes::times(num::wrapping_sub_usize(i, 1), sizes::layer(w));
+    let above = sizes::times(a, sizes::rows(w));
     num::wrapping_add_usize(num::wrapping_add_usize(layers, above), b)
 }
 
@@ -153,22 +176,6 @@ fn store(table: &mut [u16], k: usize, entry: usize) {
     }
 }
 
-// Whether a row keeps the marks from a place on; goes from its last cell to its first.
-fn keeps_row(w: usize, givens: &[u8], from: usize, row: usize) -> bool {
-    let mut rest = row;
-    for k in 0..w {
-        let p = num::wrapping_add_usize(from, w - 1 - k);
-        if givens.len() <= p {
-            return false;
-        }
-        if !plain::mark_kept(givens[p], rest % 2) {
-            return false;
-        }
-        rest = rest / 2;
-    }
-    true
-}
-
 fn write_row(board: &mut [u8], from: usize, w: usize, row: usize) {
     let mut rest = row;
     for k in 0..w {
@@ -179,32 +186,33 @@ fn write_row(board: &mut [u8], from: usize, w: usize, row: usize) {
 }
 
 // The job of these numbers; one that could not choose a row stands before it.
-pub fn job_of(s: Size, run: Run) -> Job {
+pub fn job_of(c: Checkpoint) -> Job {
     Job {
-        width: s.w,
-        height: s.h,
-        units: run.units,
-        stage: stage_of(s, run),
+        width: c.width,
+        height: c.height,
+        units: c.units,
+        stage: stage_of(c),
     }
 }
 
-fn stage_of(s: Size, run: Run) -> Stage {
-    let mark = run.mark;
+fn stage_of(c: Checkpoint) -> Stage {
+    let s = sizes::sized(c.width, c.height);
+    let mark = c.mark;
     match mark {
         1 => Stage::Finished {
-            above: run.above,
-            last: run.last,
-            score: run.live,
+            above: c.above,
+            last: c.last,
+            score: c.live,
         },
         2 => Stage::Infeasible,
         _ => {
-            if run.units < s.entries {
+            if c.units < s.entries {
                 return Stage::Filling;
             }
             Stage::Choosing {
-                above: run.above,
-                last: run.last,
-                live: run.live,
+                above: c.above,
+                last: c.last,
+                live: c.live,
             }
         }
     }
@@ -212,21 +220,32 @@ fn stage_of(s: Size, run: Run) -> Stage {
 
 // Whether resuming takes the numbers.
 pub fn takes(c: Checkpoint) -> bool {
-    if c.width < 1 || 10 < c.width || c.height < 1 || 60 < c.height {
-        return false;
-    }
-    let rows = sizes::rows(c.width);
-    if rows <= c.above || rows <= c.last {
-        return false;
-    }
+    is_size(c.width, c.height) && are_rows(c) && is_stage(c)
+}
+
+fn is_size(w: usize, h: usize) -> bool {
+    1 <= w && w <= 10 && 1 <= h && h <= 60
+}
+
+fn are_rows(c: Checkpoint) -> bool {
+    let end = sizes::rows(c.width);
+    c.above < end && c.last < end
+}
+
+// Whether the units, the rows and the live cells fit the mark.
+fn is_stage(c: Checkpoint) -> bool {
     let s = sizes::sized(c.width, c.height);
-    let end = num::wrapping_add_usize(s.entries, s.h);
-    let chosen = num::wrapping_sub_usize(c.units, s.entries);
+    let units = c.units;
+    let chosen = if units < s.entries {
+        0
+    } else {
+        units - s.entries
+    };
     let mark = c.mark;
     match mark {
-        0 => c.units < end && rows_fit(c, if c.units < s.entries { 0 } else { chosen }),
-        1 => c.units == end && rows_fit(c, s.h),
-        2 => chosen == 1 && c.above == 0 && c.last == 0 && c.live == 0,
+        0 => chosen < s.h && rows_fit(c, chosen),
+        1 => chosen == s.h && rows_fit(c, chosen),
+        2 => chosen == 1 && rows_fit(c, 0),
         _ => false,
     }
 }

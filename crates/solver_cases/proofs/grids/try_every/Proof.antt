@@ -1,50 +1,42 @@
--- `solver_cases::grids::try_every` is safe and ends: the number rises to the number of grids.
+-- `solver_cases::grids::try_every` is safe and ends: the size rises to the last.
 -- Assumes nothing.
-use mathlib.Core.Path.{_≡_}
 use Prim.Native.Nat.{_-_, _≤_}
-use lib.ListN.{length}
 use borrow.Author.Needs.{needs}
 use Rattle.solver_cases.proofs.grids.try_every.Statement.{statement}
 use Rattle.solver_cases.proofs.grids.try_every.Tie as tie
 
 abbrev Inv-loop : tie.InvT-loop
-Inv-loop s still givens₀ table₀ board₀ table2₀ board2₀ counts₀ end number₀ givens table board table2 board2 counts number = (number ≤ end) × (length givens ≡ length givens₀) × (length table ≡ length table₀) × (length board ≡ length board₀) × (length table2 ≡ length table2₀) × (length board2 ≡ length board2₀)
+Inv-loop counts₀ k₀ counts k = k ≤ 9
 
 abbrev μ-loop : tie.MeasureT-loop
-μ-loop s still givens₀ table₀ board₀ table2₀ board2₀ counts₀ end number₀ givens table board table2 board2 counts number = end - number
+μ-loop counts₀ k₀ counts k = 9 - k
 
-grids-of-requires : tie.Need-grids-of-requires Inv-loop μ-loop
-grids-of-requires c κs = search needs
+nothing-requires : tie.Need-nothing-requires Inv-loop μ-loop
+nothing-requires c κs = search needs
 
 loop-holds : tie.Need-loop-holds Inv-loop μ-loop
 loop-holds c = search needs
 
-try-number-requires : tie.Need-try-number-requires Inv-loop μ-loop
-try-number-requires c κs = search needs
+add-sized : tie.Need-add-sized Inv-loop μ-loop
+add-sized c = search needs
 
-add-number : tie.Need-add-number Inv-loop μ-loop
-add-number c = search needs
+add-sized-2 : tie.Need-add-sized-2 Inv-loop μ-loop
+add-sized-2 c = search needs
+
+sized-requires : tie.Need-sized-requires Inv-loop μ-loop
+sized-requires c κs = search needs
+
+try-numbers-requires : tie.Need-try-numbers-requires Inv-loop μ-loop
+try-numbers-requires c κs = search needs
+
+add-k : tie.Need-add-k Inv-loop μ-loop
+add-k c = search needs
 
 loop-less : tie.Need-loop-less Inv-loop μ-loop
 loop-less c = search needs
 
 loop-again : tie.Need-loop-again Inv-loop μ-loop
 loop-again c = search needs
-
-same-length : tie.Need-same-length Inv-loop μ-loop
-same-length c = search needs
-
-same-length-2 : tie.Need-same-length-2 Inv-loop μ-loop
-same-length-2 c = search needs
-
-same-length-3 : tie.Need-same-length-3 Inv-loop μ-loop
-same-length-3 c = search needs
-
-same-length-4 : tie.Need-same-length-4 Inv-loop μ-loop
-same-length-4 c = search needs
-
-same-length-5 : tie.Need-same-length-5 Inv-loop μ-loop
-same-length-5 c = search needs
 
 returns : tie.Need-returns Inv-loop μ-loop
 returns c = search needs
@@ -55,15 +47,13 @@ try-every-spec =
     (tie.spec
     Inv-loop
     μ-loop
-    grids-of-requires
+    nothing-requires
     loop-holds
-    try-number-requires
-    add-number
+    add-sized
+    add-sized-2
+    sized-requires
+    try-numbers-requires
+    add-k
     loop-less
     loop-again
-    same-length
-    same-length-2
-    same-length-3
-    same-length-4
-    same-length-5
     returns)

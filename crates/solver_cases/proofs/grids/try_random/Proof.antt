@@ -1,20 +1,30 @@
--- `solver_cases::grids::try_random` is safe and ends: the grids tried rise to 200.
+-- `solver_cases::grids::try_random` is safe and ends: the grids rise to their number.
 -- Assumes nothing.
-use mathlib.Core.Path.{_≡_}
 use Prim.Native.Nat.{_-_, _≤_}
-use lib.ListN.{length}
 use borrow.Author.Needs.{needs}
 use Rattle.solver_cases.proofs.grids.try_random.Statement.{statement}
 use Rattle.solver_cases.proofs.grids.try_random.Tie as tie
 
 abbrev Inv-loop : tie.InvT-loop
-Inv-loop s still givens₀ table₀ board₀ table2₀ board2₀ counts₀ k₀ givens table board table2 board2 counts k = (k ≤ 200) × (length givens ≡ length givens₀) × (length table ≡ length table₀) × (length board ≡ length board₀) × (length table2 ≡ length table2₀) × (length board2 ≡ length board2₀)
+Inv-loop counts₀ k₀ counts k = k ≤ 3200
 
 abbrev μ-loop : tie.MeasureT-loop
-μ-loop s still givens₀ table₀ board₀ table2₀ board2₀ counts₀ k₀ givens table board table2 board2 counts k = 200 - k
+μ-loop counts₀ k₀ counts k = 3200 - k
+
+nothing-requires : tie.Need-nothing-requires Inv-loop μ-loop
+nothing-requires c κs = search needs
 
 loop-holds : tie.Need-loop-holds Inv-loop μ-loop
 loop-holds c = search needs
+
+add-sized : tie.Need-add-sized Inv-loop μ-loop
+add-sized c = search needs
+
+add-sized-2 : tie.Need-add-sized-2 Inv-loop μ-loop
+add-sized-2 c = search needs
+
+sized-requires : tie.Need-sized-requires Inv-loop μ-loop
+sized-requires c κs = search needs
 
 try-seed-requires : tie.Need-try-seed-requires Inv-loop μ-loop
 try-seed-requires c κs = search needs
@@ -28,21 +38,6 @@ loop-less c = search needs
 loop-again : tie.Need-loop-again Inv-loop μ-loop
 loop-again c = search needs
 
-same-length : tie.Need-same-length Inv-loop μ-loop
-same-length c = search needs
-
-same-length-2 : tie.Need-same-length-2 Inv-loop μ-loop
-same-length-2 c = search needs
-
-same-length-3 : tie.Need-same-length-3 Inv-loop μ-loop
-same-length-3 c = search needs
-
-same-length-4 : tie.Need-same-length-4 Inv-loop μ-loop
-same-length-4 c = search needs
-
-same-length-5 : tie.Need-same-length-5 Inv-loop μ-loop
-same-length-5 c = search needs
-
 returns : tie.Need-returns Inv-loop μ-loop
 returns c = search needs
 
@@ -52,14 +47,13 @@ try-random-spec =
     (tie.spec
     Inv-loop
     μ-loop
+    nothing-requires
     loop-holds
+    add-sized
+    add-sized-2
+    sized-requires
     try-seed-requires
     add-k
     loop-less
     loop-again
-    same-length
-    same-length-2
-    same-length-3
-    same-length-4
-    same-length-5
     returns)

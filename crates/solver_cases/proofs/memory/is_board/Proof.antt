@@ -6,10 +6,10 @@ use Rattle.solver_cases.proofs.memory.is_board.Statement.{statement}
 use Rattle.solver_cases.proofs.memory.is_board.Tie as tie
 
 abbrev Inv-loop : tie.InvT-loop
-Inv-loop board n number rest₀ k₀ rest k = k ≤ n
+Inv-loop n number m rest₀ k₀ rest k = k ≤ n
 
 abbrev μ-loop : tie.MeasureT-loop
-μ-loop board n number rest₀ k₀ rest k = n - k
+μ-loop n number m rest₀ k₀ rest k = n - k
 
 loop-holds : tie.Need-loop-holds Inv-loop μ-loop
 loop-holds c = search needs
@@ -23,8 +23,8 @@ sub-p-2 c = search needs
 returns : tie.Need-returns Inv-loop μ-loop
 returns c = search needs
 
-shared-slice-read-byte : tie.Need-shared-slice-read-byte Inv-loop μ-loop
-shared-slice-read-byte c = search needs
+element-copy-out-byte : tie.Need-element-copy-out-byte Inv-loop μ-loop
+element-copy-out-byte c = search needs
 
 byte-requires : tie.Need-byte-requires Inv-loop μ-loop
 byte-requires c κs = search needs
@@ -54,7 +54,7 @@ is-board-spec =
     sub-p
     sub-p-2
     returns
-    shared-slice-read-byte
+    element-copy-out-byte
     byte-requires
     returns-2
     add-k

@@ -14,8 +14,8 @@ abbrev μ-loop : tie.MeasureT-loop
 loop-holds : tie.Need-loop-holds Inv-loop μ-loop
 loop-holds c = search needs
 
-wrapping-add-usize-requires : tie.Need-wrapping-add-usize-requires Inv-loop μ-loop
-wrapping-add-usize-requires c κs = search needs
+add-random-numbers : tie.Need-add-random-numbers Inv-loop μ-loop
+add-random-numbers c = search needs
 
 random-numbers-requires : tie.Need-random-numbers-requires Inv-loop μ-loop
 random-numbers-requires c κs = search needs
@@ -75,7 +75,7 @@ try-all-spec =
     Inv-loop
     μ-loop
     loop-holds
-    wrapping-add-usize-requires
+    add-random-numbers
     random-numbers-requires
     takes-requires
     resumes-as-requires

@@ -1,17 +1,15 @@
--- `solver_cases::plain::best_board` is safe and ends: the number rises to the length.
+-- `solver_cases::plain::best_board` is safe and ends: the number rises to the number of boards.
 -- Assumes nothing.
-use mathlib.Core.Path.{_≡_}
 use Prim.Native.Nat.{_-_, _≤_}
-use lib.ListN.{length}
 use borrow.Author.Needs.{needs}
 use Rattle.solver_cases.proofs.plain.best_board.Statement.{statement}
 use Rattle.solver_cases.proofs.plain.best_board.Tie as tie
 
 abbrev Inv-loop : tie.InvT-loop
-Inv-loop still givens cells count best₀ first₀ number₀ number-end best first number = (number ≤ number-end) × (number-end ≡ length still)
+Inv-loop s givens end best₀ first₀ number₀ best first number = number ≤ end
 
 abbrev μ-loop : tie.MeasureT-loop
-μ-loop still givens cells count best₀ first₀ number₀ number-end best first number = number-end - number
+μ-loop s givens end best₀ first₀ number₀ best first number = end - number
 
 boards-requires : tie.Need-boards-requires Inv-loop μ-loop
 boards-requires c κs = search needs
@@ -19,17 +17,14 @@ boards-requires c κs = search needs
 loop-holds : tie.Need-loop-holds Inv-loop μ-loop
 loop-holds c = search needs
 
-shared-slice-read-if2 : tie.Need-shared-slice-read-if2 Inv-loop μ-loop
-shared-slice-read-if2 c = search needs
-
-keeps-givens-requires : tie.Need-keeps-givens-requires Inv-loop μ-loop
-keeps-givens-requires c κs = search needs
-
 live-requires : tie.Need-live-requires Inv-loop μ-loop
 live-requires c κs = search needs
 
 wrapping-add-usize-requires : tie.Need-wrapping-add-usize-requires Inv-loop μ-loop
 wrapping-add-usize-requires c κs = search needs
+
+is-solution-requires : tie.Need-is-solution-requires Inv-loop μ-loop
+is-solution-requires c κs = search needs
 
 add-number : tie.Need-add-number Inv-loop μ-loop
 add-number c = search needs
@@ -54,10 +49,9 @@ best-board-spec =
     μ-loop
     boards-requires
     loop-holds
-    shared-slice-read-if2
-    keeps-givens-requires
     live-requires
     wrapping-add-usize-requires
+    is-solution-requires
     add-number
     loop-less
     loop-again

@@ -6,19 +6,22 @@ use Rattle.solver_cases.proofs.plain.keeps_givens.Statement.{statement}
 use Rattle.solver_cases.proofs.plain.keeps_givens.Tie as tie
 
 abbrev Inv-loop : tie.InvT-loop
-Inv-loop givens cells number rest₀ k₀ rest k = k ≤ cells
+Inv-loop givens from cells number rest₀ k₀ rest k = k ≤ cells
 
 abbrev μ-loop : tie.MeasureT-loop
-μ-loop givens cells number rest₀ k₀ rest k = cells - k
+μ-loop givens from cells number rest₀ k₀ rest k = cells - k
 
 loop-holds : tie.Need-loop-holds Inv-loop μ-loop
 loop-holds c = search needs
 
-sub-p : tie.Need-sub-p Inv-loop μ-loop
-sub-p c = search needs
+sub-wrapping-add-usize : tie.Need-sub-wrapping-add-usize Inv-loop μ-loop
+sub-wrapping-add-usize c = search needs
 
-sub-p-2 : tie.Need-sub-p-2 Inv-loop μ-loop
-sub-p-2 c = search needs
+sub-wrapping-add-usize-2 : tie.Need-sub-wrapping-add-usize-2 Inv-loop μ-loop
+sub-wrapping-add-usize-2 c = search needs
+
+wrapping-add-usize-requires : tie.Need-wrapping-add-usize-requires Inv-loop μ-loop
+wrapping-add-usize-requires c κs = search needs
 
 returns : tie.Need-returns Inv-loop μ-loop
 returns c = search needs
@@ -51,8 +54,9 @@ keeps-givens-spec =
     Inv-loop
     μ-loop
     loop-holds
-    sub-p
-    sub-p-2
+    sub-wrapping-add-usize
+    sub-wrapping-add-usize-2
+    wrapping-add-usize-requires
     returns
     shared-slice-read-mark-kept
     mark-kept-requires

@@ -6,19 +6,10 @@ use Rattle.solver_cases.proofs.unit.best_below.Statement.{statement}
 use Rattle.solver_cases.proofs.unit.best_below.Tie as tie
 
 abbrev Inv-loop : tie.InvT-loop
-Inv-loop s a b k givens table marks first end best₀ c₀ best c = c ≤ end
+Inv-loop w a b k givens table end best₀ row₀ c₀ best row c = c ≤ end
 
 abbrev μ-loop : tie.MeasureT-loop
-μ-loop s a b k givens table marks first end best₀ c₀ best c = end - c
-
-wrapping-sub-usize-requires : tie.Need-wrapping-sub-usize-requires Inv-loop μ-loop
-wrapping-sub-usize-requires c κs = search needs
-
-times-requires : tie.Need-times-requires Inv-loop μ-loop
-times-requires c κs = search needs
-
-place-requires : tie.Need-place-requires Inv-loop μ-loop
-place-requires c κs = search needs
+μ-loop w a b k givens table end best₀ row₀ c₀ best row c = end - c
 
 rows-requires : tie.Need-rows-requires Inv-loop μ-loop
 rows-requires c κs = search needs
@@ -26,23 +17,8 @@ rows-requires c κs = search needs
 loop-holds : tie.Need-loop-holds Inv-loop μ-loop
 loop-holds c = search needs
 
-wrapping-add-usize-requires : tie.Need-wrapping-add-usize-requires Inv-loop μ-loop
-wrapping-add-usize-requires c κs = search needs
-
-load-requires : tie.Need-load-requires Inv-loop μ-loop
-load-requires c κs = search needs
-
-live-requires : tie.Need-live-requires Inv-loop μ-loop
-live-requires c κs = search needs
-
-wrapping-add-usize-requires-2 : tie.Need-wrapping-add-usize-requires-2 Inv-loop μ-loop
-wrapping-add-usize-requires-2 c κs = search needs
-
-keeps-row-requires : tie.Need-keeps-row-requires Inv-loop μ-loop
-keeps-row-requires c κs = search needs
-
-agree-requires : tie.Need-agree-requires Inv-loop μ-loop
-agree-requires c κs = search needs
+offer-requires : tie.Need-offer-requires Inv-loop μ-loop
+offer-requires c κs = search needs
 
 add-c : tie.Need-add-c Inv-loop μ-loop
 add-c c = search needs
@@ -53,8 +29,14 @@ loop-less c = search needs
 loop-again : tie.Need-loop-again Inv-loop μ-loop
 loop-again c = search needs
 
+sub-t28 : tie.Need-sub-t28 Inv-loop μ-loop
+sub-t28 c = search needs
+
 returns : tie.Need-returns Inv-loop μ-loop
 returns c = search needs
+
+returns-2 : tie.Need-returns-2 Inv-loop μ-loop
+returns-2 c = search needs
 
 pub best-below-spec : {M : Type 1} → statement M
 best-below-spec =
@@ -62,18 +44,12 @@ best-below-spec =
     (tie.spec
     Inv-loop
     μ-loop
-    wrapping-sub-usize-requires
-    times-requires
-    place-requires
     rows-requires
     loop-holds
-    wrapping-add-usize-requires
-    load-requires
-    live-requires
-    wrapping-add-usize-requires-2
-    keeps-row-requires
-    agree-requires
+    offer-requires
     add-c
     loop-less
     loop-again
-    returns)
+    sub-t28
+    returns
+    returns-2)

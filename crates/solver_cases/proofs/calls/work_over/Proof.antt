@@ -1,11 +1,11 @@
--- `solver_cases::calls::work` is safe: the parts lent have their lengths.
+-- `solver_cases::calls::work_over` is safe: the parts lent have their lengths.
 -- Assumes nothing.
 use mathlib.Core.Path.{sym}
 use native.Mathlib.Omega.{arith}
 use lib.Seq.{length-take-le}
 use borrow.Author.Needs.{needs}
-use Rattle.solver_cases.proofs.calls.work.Statement.{statement}
-use Rattle.solver_cases.proofs.calls.work.Tie as tie
+use Rattle.solver_cases.proofs.calls.work_over.Statement.{statement}
+use Rattle.solver_cases.proofs.calls.work_over.Tie as tie
 
 least-requires : tie.Need-least-requires
 least-requires c κs = search needs
@@ -43,8 +43,8 @@ same-length-2 c = search needs
 returns : tie.Need-returns
 returns c = search needs
 
-pub work-spec : {M : Type 1} → statement M
-work-spec =
+pub work-over-spec : {M : Type 1} → statement M
+work-over-spec =
     tie.close
     (tie.spec
     least-requires

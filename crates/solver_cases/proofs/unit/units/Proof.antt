@@ -1,17 +1,17 @@
--- `solver_cases::unit::work` is safe and ends: the units done rise to the allowance.
+-- `solver_cases::unit::units` is safe and ends: the units done rise to the allowance.
 -- Assumes nothing.
 use mathlib.Core.Path.{_≡_}
 use Prim.Native.Nat.{_-_, _≤_}
 use lib.ListN.{length}
 use borrow.Author.Needs.{needs}
-use Rattle.solver_cases.proofs.unit.work.Statement.{statement}
-use Rattle.solver_cases.proofs.unit.work.Tie as tie
+use Rattle.solver_cases.proofs.unit.units.Statement.{statement}
+use Rattle.solver_cases.proofs.unit.units.Tie as tie
 
 abbrev Inv-loop : tie.InvT-loop
-Inv-loop s givens table₀ board₀ allowance run₀ k₀ table board run k = (k ≤ allowance) × (length table ≡ length table₀) × (length board ≡ length board₀)
+Inv-loop s givens table₀ board₀ allowance c₀ k₀ table board c k = (k ≤ allowance) × (length table ≡ length table₀) × (length board ≡ length board₀)
 
 abbrev μ-loop : tie.MeasureT-loop
-μ-loop s givens table₀ board₀ allowance run₀ k₀ table board run k = allowance - k
+μ-loop s givens table₀ board₀ allowance c₀ k₀ table board c k = allowance - k
 
 loop-holds : tie.Need-loop-holds Inv-loop μ-loop
 loop-holds c = search needs
@@ -46,8 +46,8 @@ same-length-4 c = search needs
 returns-2 : tie.Need-returns-2 Inv-loop μ-loop
 returns-2 c = search needs
 
-pub work-spec : {M : Type 1} → statement M
-work-spec =
+pub units-spec : {M : Type 1} → statement M
+units-spec =
     tie.close
     (tie.spec
     Inv-loop

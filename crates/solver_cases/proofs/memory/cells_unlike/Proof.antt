@@ -1,26 +1,27 @@
--- `solver_cases::refusals::entries_other_than` is safe and ends: the place rises to the length.
+-- `solver_cases::memory::cells_unlike` is safe and ends: the place rises to the end.
 -- Assumes nothing.
-use mathlib.Core.Path.{_≡_}
 use Prim.Native.Nat.{_-_, _≤_}
-use lib.ListN.{length}
 use borrow.Author.Needs.{needs}
-use Rattle.solver_cases.proofs.refusals.entries_other_than.Statement.{statement}
-use Rattle.solver_cases.proofs.refusals.entries_other_than.Tie as tie
+use Rattle.solver_cases.proofs.memory.cells_unlike.Statement.{statement}
+use Rattle.solver_cases.proofs.memory.cells_unlike.Tie as tie
 
 abbrev Inv-loop : tie.InvT-loop
-Inv-loop table entry n₀ k₀ k-end n k = (k ≤ k-end) × (k-end ≡ length table)
+Inv-loop from to a b end n₀ k₀ n k = end ≤ 128
 
 abbrev μ-loop : tie.MeasureT-loop
-μ-loop table entry n₀ k₀ k-end n k = k-end - k
+μ-loop from to a b end n₀ k₀ n k = end - k
+
+least-requires : tie.Need-least-requires Inv-loop μ-loop
+least-requires c κs = search needs
 
 loop-holds : tie.Need-loop-holds Inv-loop μ-loop
 loop-holds c = search needs
 
-mul-if1 : tie.Need-mul-if1 Inv-loop μ-loop
-mul-if1 c = search needs
+element-copy-out-if1 : tie.Need-element-copy-out-if1 Inv-loop μ-loop
+element-copy-out-if1 c = search needs
 
-shared-slice-read-if1 : tie.Need-shared-slice-read-if1 Inv-loop μ-loop
-shared-slice-read-if1 c = search needs
+element-copy-out-if1-2 : tie.Need-element-copy-out-if1-2 Inv-loop μ-loop
+element-copy-out-if1-2 c = search needs
 
 wrapping-add-usize-requires : tie.Need-wrapping-add-usize-requires Inv-loop μ-loop
 wrapping-add-usize-requires c κs = search needs
@@ -37,15 +38,16 @@ loop-again c = search needs
 returns : tie.Need-returns Inv-loop μ-loop
 returns c = search needs
 
-pub entries-other-than-spec : {M : Type 1} → statement M
-entries-other-than-spec =
+pub cells-unlike-spec : {M : Type 1} → statement M
+cells-unlike-spec =
     tie.close
     (tie.spec
     Inv-loop
     μ-loop
+    least-requires
     loop-holds
-    mul-if1
-    shared-slice-read-if1
+    element-copy-out-if1
+    element-copy-out-if1-2
     wrapping-add-usize-requires
     add-k
     loop-less
