@@ -22,6 +22,12 @@ unfolding total
 total-same f g zero e = refl
 total-same f g (suc n) e = rw (total-same f g n (λ k l. e k (omega arith)), e n (omega arith))
 
+-- a sum of sums is the sum of both
+pub total-sum : (f g h : ℕ → ℕ) (n : ℕ) → ((k : ℕ) → k < n → f k ≡ g k + h k) → total f n ≡ total g n + total h n
+unfolding total
+total-sum f g h zero e = refl
+total-sum f g h (suc n) e = omega (arith, total-sum f g h n (λ k l. e k (omega arith)), e n (omega arith))
+
 -- of small numbers it is small
 pub total-le : (f : ℕ → ℕ) (m : ℕ) → ((k : ℕ) → f k ≤ m) → (n : ℕ) → total f n ≤ n * m
 unfolding total

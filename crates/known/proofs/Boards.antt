@@ -12,7 +12,7 @@ use Rattle.life.specs.Rows.{cellOf, becomes, stepsTo}
 use Rattle.life.specs.Calls.{nextAt, keepsAt, judged, judgeRule}
 use Rattle.plaintext.specs.Lines.{linesOf}
 use Rattle.plaintext.specs.Reading as Reading
-use Rattle.solver.specs.Rows.{live, markKept, rowKept, written}
+use Rattle.solver.specs.Rows.{markKept, rowKept, cellWorth, rowWorth, written}
 use Rattle.solver.specs.ScoreTable.{placeOf}
 use Rattle.solver.specs.Jobs.{tableSize, unitsFit, rowsChosen, rowsFit, checkpointFits, jobFits, workCheck}
 use Rattle.solver.specs.Units.{unitPlace, unitEntry, rowChoice, unitOf}
@@ -20,7 +20,7 @@ use Rattle.solver.specs.Calls.{worksOn, workOf}
 use Rattle.known.specs.Known.{solved, Known}
 
 pub known : Known
-unfolding firstNot allBelow total sizeCheck cellsCheck givensCheck boardCheck scan choose entry conway onPlane around cellOf becomes stepsTo nextAt keepsAt judged judgeRule linesOf Reading.judge Reading.judgeLines Reading.judged Reading.firstBad Reading.rowsOf Reading.widthOf Reading.sizeRule Reading.readRule live markKept rowKept written placeOf tableSize unitsFit rowsChosen rowsFit checkpointFits jobFits workCheck unitPlace unitEntry rowChoice unitOf worksOn workOf solved
+unfolding firstNot allBelow total sizeCheck cellsCheck givensCheck boardCheck scan choose entry conway onPlane around cellOf becomes stepsTo nextAt keepsAt judged judgeRule linesOf Reading.judge Reading.judgeLines Reading.judged Reading.firstBad Reading.rowsOf Reading.widthOf Reading.sizeRule Reading.readRule markKept rowKept cellWorth rowWorth written placeOf tableSize unitsFit rowsChosen rowsFit checkpointFits jobFits workCheck unitPlace unitEntry rowChoice unitOf worksOn workOf solved
 known = record {
   m1 = refl;
   m2 = refl;
@@ -32,5 +32,7 @@ known = record {
   m8 = refl;
   m9 = (refl, refl, refl);
   m10 = refl;
+  one-given = refl;
+  all-given = refl;
   free3 = refl;
 }

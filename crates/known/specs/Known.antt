@@ -1,4 +1,4 @@
--- Document 01, "Known boards": M1 to M10, and the free 3 by 3 grid, stated of the rules themselves.
+-- Document 01, "Known boards": M1 to M10, the free 3 by 3 grid, and grids with live givens, stated of the rules themselves.
 -- Assumes nothing.
 use mathlib.Core.Path.{_≡_}
 use mathlib.Core.List.{List, [], _∷_}
@@ -45,5 +45,8 @@ pub record Known : Type 0 where
   pub m9 : (conway 7 ≡ 1) × (conway 16 ≡ 0) × (conway 511 ≡ 0)
   -- text O, LF, LF is 1 wide, 2 high
   pub m10 : readRule (bigO ∷ LF ∷ LF ∷ []) 0 2 ≡ gives (1 ∷ 2 ∷ [])
+  -- 2 by 2, first live: score 3; all four live: score 0. The block is the best board of both
+  pub one-given : solved 2 2 (2 ∷ 0 ∷ 0 ∷ 0 ∷ []) ≡ record { answer = finished 3; units = 34; board = 1 ∷ 1 ∷ 1 ∷ 1 ∷ [] }
+  pub all-given : solved 2 2 (2 ∷ 2 ∷ 2 ∷ 2 ∷ []) ≡ record { answer = finished 0; units = 34; board = 1 ∷ 1 ∷ 1 ∷ 1 ∷ [] }
   -- 3 by 3 free: rows 3, 5, 6
   pub free3 : solved 3 3 (replicate 9 0) ≡ record { answer = finished 6; units = 195; board = 0 ∷ 1 ∷ 1 ∷ 1 ∷ 0 ∷ 1 ∷ 1 ∷ 1 ∷ 0 ∷ [] }

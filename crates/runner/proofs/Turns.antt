@@ -10,7 +10,7 @@ use lib.Dec.{leb}
 use Rattle.board.specs.Answers.{Answer, gives, refuses, passed}
 use Rattle.board.specs.Boards.{Givens}
 use Rattle.board.proofs.Answers.{refuses-none}
-use Rattle.solver.specs.Grid.{population}
+use Rattle.solver.specs.Grid.{score}
 use Rattle.solver.specs.Jobs.{tableSize, boardLength, noneLength, start, workCheck, unfinished, finished, infeasible}
 use Rattle.solver.specs.Units.{State}
 use Rattle.solver.specs.Calls.{Result, workOf}
@@ -182,8 +182,8 @@ module _ {w h : ℕ} {g : List ℕ} (G : Givens w h g) (t₀ β₀ : List ℕ) w
         where
           go : Outcome w h g longer s₀ → Turned w h g t₀ β₀ n s (turn g n s)
           go (solved board O S) =
-              served-turns (boardLength w h) (finished (population w h board)) board (omega arith) (omega arith) (λ e. let z : _≡_ {A = ℕ} 0 1 = cc in omega arith)
-              (λ says β e q. best (rw q O) (e ∙ ap (λ (b : List ℕ). finished (population w h b)) (sym q))) S
+              served-turns (boardLength w h) (finished (score w h g board)) board (omega arith) (omega arith) (λ e. let z : _≡_ {A = ℕ} 0 1 = cc in omega arith)
+              (λ says β e q. best (rw q O) (e ∙ ap (λ (b : List ℕ). finished (score w h g b)) (sym q))) S
           go (unsolvable f S) =
               served-turns (noneLength w h) infeasible β₀ (omega arith) (omega (arith, G .size .some-row)) (λ e. let z : _≡_ {A = ℕ} 0 1 = cc in omega arith)
               (λ says β e q. none f e q) S

@@ -8,7 +8,7 @@ use lib.ListN.{length}
 use Rattle.board.specs.Answers.{Answer, refuses, passed, refusalSays, _then_, refuseUnless}
 use Rattle.board.specs.Boards.{Givens}
 use Rattle.board.specs.Checks.{sizeCheck, givensCheck, lengthCheck}
-use Rattle.solver.specs.Grid.{Solution, Optimal, population}
+use Rattle.solver.specs.Grid.{Solution, Optimal, score}
 use Rattle.solver.specs.Jobs.{tableSize, start, finished, infeasible}
 use Rattle.solver.specs.Demand.{Filled}
 use Rattle.solver.specs.declared.Job.{Job}
@@ -30,7 +30,7 @@ solveCheck w h givens table board = sizeCheck w h then givensCheck w h givens th
 -- the board that is left is the wanted one, and the answer its score; or there is no still board that keeps the givens, the answer says so, and
 -- the board is unwritten
 pub data Ends (w h : ℕ) (givens board : List ℕ) (says : Answer) (board′ : List ℕ) : Type 0 where
-  best : Optimal w h givens board′ → says ≡ finished (population w h board′) → Ends w h givens board says board′
+  best : Optimal w h givens board′ → says ≡ finished (score w h givens board′) → Ends w h givens board says board′
   none : ((other : List ℕ) → Solution w h givens other → ⊥) → says ≡ infeasible → board′ ≡ board → Ends w h givens board says board′
 
 -- Turned away, the call answers its refusal and writes nothing. Otherwise it comes to the job's end, and the table holds the right entries, with

@@ -1,8 +1,8 @@
 -- The kind of job that row elimination is put to is lawful, and its endings are the still boards that keep the givens.
 -- Assumes nothing.
-use mathlib.Core.Path.{_≡_, refl, sym, subst}
+use mathlib.Core.Path.{_≡_, refl, sym, _∙_, ap, subst}
 use mathlib.Core.Bool.{Bool, true, false, cond, _&&_}
-use mathlib.Core.List.{List}
+use mathlib.Core.List.{List, _∷_}
 use mathlib.Core.Logic.{⊎-elim}
 use Prim.Native.Nat.{ℕ, zero, suc, _+_, _*_, _-_, _≤_, _<_}
 use native.Mathlib.Nat.{eq-or-lt-of-le, mul-le-mul-right}
@@ -10,7 +10,7 @@ use native.Mathlib.Numerals.{add-one, add-two}
 use native.Mathlib.Omega.{arith}
 use borrow.Author.Tests.{eq-eqb, ne-eqb, eqb-true}
 use lib.Dec.{eqb, lit<}
-use lib.ListN.{getD}
+use lib.ListN.{length, getD}
 use Rattle.board.specs.Boards.{Sized, Board}
 use Rattle.board.proofs.Search.{all-of, all-at}
 use Rattle.board.proofs.Tests.{and-left, and-right}
@@ -22,12 +22,12 @@ use Rattle.rule.specs.Rule.{conway}
 use Rattle.life.specs.Rows.{rowOf, digitIn, agree, RowsAgree}
 use Rattle.life.proofs.OnPlane.{place-within}
 use Rattle.life.proofs.Theorems.{rows-life}
-use Rattle.solver.specs.Grid.{KeepsGivens, Solution, population}
-use Rattle.solver.specs.Rows.{live, markKept, rowKept}
+use Rattle.solver.specs.Grid.{KeepsGivens, Solution, score}
+use Rattle.solver.specs.Rows.{rowWorth, markKept, rowKept}
 use Rattle.solver.specs.ScoreTable.{rules, kindOf}
 use Rattle.solver.specs.Theorems.{nextRows, allRows}
 use Rattle.solver.proofs.Fits.{and-true}
-use Rattle.solver.proofs.RowLaws.{row-none, row-past, row-lt, row-digit, live-le, Place, place, population-more, population-none}
+use Rattle.solver.proofs.RowLaws.{MarkIs, isDead, isLive, isFree, mark-is, row-none, row-past, row-lt, row-digit, row-worth-le, Place, place, score-more, score-none}
 
 -- the kind of job, and where a board may end
 abbrev pub kind : ℕ → ℕ → List ℕ → Kind ℕ
@@ -39,17 +39,17 @@ ends w a b = agree conway w a b 0 && agree conway w b 0 0
 pub kind-laws : (w h : ℕ) (g : List ℕ) → Sized w h → Laws (kind w h g) h
 kind-laws w h g z =
     sums-lawful (rules (agree conway w) w (λ k. (h - suc k) * w) g) h w
-    (record { each = λ k c l. live-le w c; within = omega (arith, mul-le-mul-right w (z .low), z .narrow); absent-above = lit< tt })
+    (record { each = λ k c l. row-worth-le w g ((h - suc k) * w) c; within = omega (arith, mul-le-mul-right w (z .low), z .narrow); absent-above = lit< tt })
 
 -- ---- a mark that is kept, by the two states that a given cell may have
 mark-of : (mark cell : ℕ) → (mark ≡ 1 → cell ≡ 0) → (mark ≡ 2 → cell ≡ 1) → markKept mark cell ≡ true
 unfolding markKept
-mark-of mark cell d l = go (eqb mark 1) refl (eqb mark 2) refl
+mark-of mark cell d l = go (mark-is mark)
   where
-    go : (s : Bool) → eqb mark 1 ≡ s → (t : Bool) → eqb mark 2 ≡ t → cond s (eqb cell 0) (cond t (eqb cell 1) true) ≡ true
-    go true e t f = eq-eqb cell 0 (d (eqb-true mark 1 e))
-    go false e true f = eq-eqb cell 1 (l (eqb-true mark 2 f))
-    go false e false f = refl
+    go : MarkIs mark → markKept mark cell ≡ true
+    go (isDead e) = rw (eq-eqb mark 1 e) (eq-eqb cell 0 (d e))
+    go (isLive e) = rw (ne-eqb mark 1 (omega arith), eq-eqb mark 2 e) (eq-eqb cell 1 (l e))
+    go (isFree p q) = rw (ne-eqb mark 1 p, ne-eqb mark 2 q)
 
 mark-dead : (mark cell : ℕ) → markKept mark cell ≡ true → mark ≡ 1 → cell ≡ 0
 unfolding markKept
@@ -170,16 +170,24 @@ module _ {w h : ℕ} {board : List ℕ} (B : Board w h board) where
           keeps = keeps-of (λ r l. and-right (agree conway w (over r) (row r) (row (suc r))) (rowKept w g (r * w) (row (suc r))) (m r (omega arith) l));
         }
 
-    -- ---- the live cells of the rows
-    rows-total : (k r : ℕ) → r + k ≤ h → population w (r + k) board ≡ population w r board + total (kind w h g) (nextRows w h board r k)
+    -- ---- what the rows are worth
+    next-length : (k r : ℕ) → length (nextRows w h board r k) ≡ k
     unfolding nextRows
-    rows-total zero r l = let z : r + 0 ≡ r = omega arith in rw z (omega (arith, total-none (kind w h g)))
-    rows-total (suc k) r l =
-        let z : r + suc k ≡ suc r + k = omega arith in
-        rw z (omega (arith, rows-total k (suc r) (omega arith), population-more B r (omega arith), total-more (kind w h g) (row (suc r)) (nextRows w h board (suc r) k)))
+    next-length zero r = refl
+    next-length (suc k) r = ap suc (next-length k (suc r))
 
-    pub total-population : population w h board ≡ total (kind w h g) (allRows w h board)
-    total-population =
-        let z : 0 + h ≡ h = omega arith in
-        let e : population w h board ≡ population w 0 board + total (kind w h g) (allRows w h board) = rw z at (rows-total h 0 (omega arith)) in
-        omega (arith, population-none w board)
+    rows-total : (k r : ℕ) → r + k ≡ h → score w h g board ≡ score w r g board + total (kind w h g) (nextRows w h board r k)
+    unfolding nextRows
+    rows-total zero r l =
+        let e : h ≡ r = omega arith in
+        omega (arith, total-none (kind w h g), ap (λ (x : ℕ). score w x g board) e)
+    rows-total (suc k) r l =
+        let c = row (suc r) in
+        let cs = nextRows w h board (suc r) k in
+        let e : h - suc (length cs) ≡ r = omega (arith, next-length k (suc r)) in
+        let m : total (kind w h g) (c ∷ cs) ≡ rowWorth w g (r * w) c + total (kind w h g) cs =
+        total-more (kind w h g) c cs ∙ ap (λ (x : ℕ). rowWorth w g (x * w) c + total (kind w h g) cs) e in
+        omega (arith, rows-total k (suc r) (omega arith), score-more B g r (omega arith), m)
+
+    pub total-score : score w h g board ≡ total (kind w h g) (allRows w h board)
+    total-score = omega (arith, rows-total h 0 (omega arith), score-none w g board)

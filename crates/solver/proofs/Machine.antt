@@ -22,12 +22,12 @@ use Rattle.elimination.specs.Job as Elimination
 use Rattle.elimination.specs.FillThenChoose.{plan, fillThenChoose}
 use Rattle.elimination.proofs.Job.{unit-row}
 use Rattle.elimination.proofs.FillThenChoose.{plan-fill, plan-row}
-use Rattle.solver.specs.Rows.{live, written}
+use Rattle.solver.specs.Rows.{rowWorth, written}
 use Rattle.solver.specs.Jobs.{tableSize, aboveOf, lastOf, liveOf, jobFits}
 use Rattle.solver.specs.Units.{State, Step, next, spoiled, unitPlace, unitEntry, rowChoice, chosenTo, chooseStep, unitOf}
 use Rattle.solver.specs.declared.Stage.{Stage}
 use Rattle.solver.proofs.Fits.{RowsFit, Choosing, Fits, jobAt, fits-of}
-use Rattle.solver.proofs.RowLaws.{live-le}
+use Rattle.solver.proofs.RowLaws.{row-worth-le}
 use Rattle.solver.proofs.Endings.{kind}
 use Rattle.solver.proofs.Optimum.{putRow}
 use Rattle.solver.proofs.TableLaws.{table-four, place-same, entry-same, choice-same, RowBelow, choice-lt}
@@ -102,14 +102,18 @@ module _ {w h : ℕ} (z : Sized w h) (g : List ℕ) where
     abbrev r : ℕ
     r = u - tableSize w h
 
+    -- what row k + 1 earns as c
+    abbrev worth : ℕ → ℕ → ℕ
+    worth k c = rowWorth w g (k * w) c
+
     row-fits : (c : ℕ) → c < 2 ^ w → (b : Bool) → ltb (r + 1) h ≡ b
-        → Fits w h (u + 1) (cond b (Stage.Choosing last c (soFar + live w c)) (Stage.Finished last c (soFar + live w c)))
+        → Fits w h (u + 1) (cond b (Stage.Choosing last c (soFar + worth r c)) (Stage.Finished last c (soFar + worth r c)))
     row-fits c l b e = go b e
       where
-        rows : RowsFit w (suc r) last c (soFar + live w c)
-        rows = record { few = omega (arith, F .rows .few, live-le w c); none = λ q. absurd (omega arith); one = λ q. F .rows .none (omega arith) }
+        rows : RowsFit w (suc r) last c (soFar + worth r c)
+        rows = record { few = omega (arith, F .rows .few, row-worth-le w g (r * w) c); none = λ q. absurd (omega arith); one = λ q. F .rows .none (omega arith) }
 
-        go : (b : Bool) → ltb (r + 1) h ≡ b → Fits w h (u + 1) (cond b (Stage.Choosing last c (soFar + live w c)) (Stage.Finished last c (soFar + live w c)))
+        go : (b : Bool) → ltb (r + 1) h ≡ b → Fits w h (u + 1) (cond b (Stage.Choosing last c (soFar + worth r c)) (Stage.Finished last c (soFar + worth r c)))
         go true e =
             let lt = ltb-true (r + 1) h e in
             let k : u + 1 - tableSize w h ≡ suc (u - tableSize w h) = omega (arith, F .from) in
@@ -143,11 +147,13 @@ module _ {w h : ℕ} (z : Sized w h) (g : List ℕ) where
 
       -- by what is chosen
       choose-law : (k : ℕ) → r ≡ k → (o : Choice ℕ) → RowBelow (2 ^ w) o → machine w h g .unit (view here) ≡ takeRow (setup w h g) k (view here) o
-          → Steps w h g (chooseStep w h u k last soFar t β o) here
-      choose-law k e (chosen c n) l m = (
-        record { wide = refl; tall = refl; stage = subst (λ (x : ℕ). Fits w h (u + 1) (chosenTo h (x + 1) last c (soFar + live w c))) e (row-fits c l (ltb (r + 1) h) refl) },
-        row-view last c (soFar + live w c) (u + 1) t (written w c β (k * w) w) (ltb (k + 1) h) ∙ rw (add-one u, add-one k, add-comm soFar (live w c)) (sym m),
-      )
+          → Steps w h g (chooseStep g w h u k last soFar t β o) here
+      choose-law k e (chosen c n) l m =
+          let q : k ≡ h - suc (h - suc k) = omega (arith, F .from, F .until) in
+          let f : worth k c ≡ worth (h - suc (h - suc k)) c = ap (λ (x : ℕ). worth x c) q in (
+            record { wide = refl; tall = refl; stage = subst (λ (x : ℕ). Fits w h (u + 1) (chosenTo h (x + 1) last c (soFar + worth x c))) e (row-fits c l (ltb (r + 1) h) refl) },
+            row-view last c (soFar + worth k c) (u + 1) t (written w c β (k * w) w) (ltb (k + 1) h) ∙ rw (add-one u, add-one k, add-comm soFar (worth k c), f) (sym m),
+          )
       choose-law zero e nothing l m =
           let none : last ≡ 0 = F .rows .none e in
           let one : above ≡ 0 = F .rows .one (omega arith) in

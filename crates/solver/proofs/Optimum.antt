@@ -21,12 +21,12 @@ use Rattle.elimination.proofs.Numbers.{lt-or-ge}
 use Rattle.elimination.proofs.Sums.{tied-equal}
 use Rattle.elimination.proofs.Endings.{ending-length}
 use Rattle.life.specs.Rows.{rowOf}
-use Rattle.solver.specs.Grid.{Solution, population, Precedes, Optimal}
+use Rattle.solver.specs.Grid.{Solution, score, Precedes, Optimal}
 use Rattle.solver.specs.Rows.{written}
 use Rattle.solver.specs.Theorems.{nextRows, allRows}
 use Rattle.solver.proofs.Writing.{written-length, written-before, written-after, written-cell, reads-back}
 use Rattle.solver.proofs.RowLaws.{same-number, row-inside, row-none, same-rows}
-use Rattle.solver.proofs.Endings.{kind, solution-ends, ends-solution, total-population}
+use Rattle.solver.proofs.Endings.{kind, solution-ends, ends-solution, total-score}
 
 -- ---- one row written: the row with r rows above it becomes c
 abbrev pub putRow : ℕ → ℕ → ℕ → List ℕ → List ℕ
@@ -200,11 +200,11 @@ module _ {w h : ℕ} (z : Sized w h) (g : List ℕ) (x : ℕ) (cs : List ℕ) (B
   pub is-rows : allRows w h (boardOf w h cs) ≡ cs
   is-rows = into-rows z g cs (B .lawful) (blank w h) (blank-size w h)
 
-  pub is-population : population w h (boardOf w h cs) ≡ total (kind w h g) cs
-  is-population = total-population is-board g ∙ ap (total (kind w h g)) is-rows
+  pub is-total : score w h g (boardOf w h cs) ≡ total (kind w h g) cs
+  is-total = total-score is-board g ∙ ap (total (kind w h g)) is-rows
 
-  pub is-score : population w h (boardOf w h cs) ≡ x
-  is-score = is-population ∙ tied-equal false (B .worth)
+  pub is-score : score w h g (boardOf w h cs) ≡ x
+  is-score = is-total ∙ tied-equal false (B .worth)
 
   module _ (other : List ℕ) (S : Solution w h g other) where
     abbrev Beats : Type 0
@@ -213,19 +213,19 @@ module _ {w h : ℕ} (z : Sized w h) (g : List ℕ) (x : ℕ) (cs : List ℕ) (B
     beats : Beats
     beats = B .unbeaten (allRows w h other) (solution-ends (S .grid) g S)
 
-    its-population : population w h other ≡ total (kind w h g) (allRows w h other)
-    its-population = total-population (S .grid) g
+    its-score : score w h g other ≡ total (kind w h g) (allRows w h other)
+    its-score = total-score (S .grid) g
 
-    most : Beats → population w h other ≤ population w h (boardOf w h cs)
-    most (isWorse p) = omega (arith, ltb-true (total (kind w h g) (allRows w h other)) x p, its-population, is-score)
-    most (isTied e f) = omega (arith, tied-equal false e, its-population, is-score)
+    most : Beats → score w h g other ≤ score w h g (boardOf w h cs)
+    most (isWorse p) = omega (arith, ltb-true (total (kind w h g) (allRows w h other)) x p, its-score, is-score)
+    most (isTied e f) = omega (arith, tied-equal false e, its-score, is-score)
 
     placed : Compared w h other (boardOf w h cs) 0 h → (other ≡ boardOf w h cs) ⊎ Precedes w h (boardOf w h cs) other
     placed (same f) = inl (same-rows (S .grid) is-board (λ r l. f r (omega arith) (omega arith)))
     placed (later i l m f s) = inr (record { row = suc i; inside = omega arith; equal = equal-rows w h other (boardOf w h cs) i f; smaller = s })
 
-    earliest : population w h other ≡ population w h (boardOf w h cs) → Beats → (other ≡ boardOf w h cs) ⊎ Precedes w h (boardOf w h cs) other
-    earliest q (isWorse p) = absurd (omega (arith, ltb-true (total (kind w h g) (allRows w h other)) x p, its-population, is-score))
+    earliest : score w h g other ≡ score w h g (boardOf w h cs) → Beats → (other ≡ boardOf w h cs) ⊎ Precedes w h (boardOf w h cs) other
+    earliest q (isWorse p) = absurd (omega (arith, ltb-true (total (kind w h g) (allRows w h other)) x p, its-score, is-score))
     earliest q (isTied e f) = placed (compare w h other (boardOf w h cs) h 0 (rw is-rows f))
 
   pub optimal : Optimal w h g (boardOf w h cs)

@@ -1,4 +1,4 @@
--- Rows and cells: a row's digits are its cells, its live cells are their sum, and a board is its rows.
+-- Rows and cells: a row's digits are its cells, its worth is what they earn, and a board is its rows.
 -- Assumes nothing.
 use mathlib.Core.Path.{_≡_, refl, sym, _∙_, ap, ap₂}
 use mathlib.Core.Bool.{Bool, true, false, cond}
@@ -7,6 +7,8 @@ use Prim.Native.Nat.{ℕ, zero, suc, _+_, _*_, _-_, _/_, _%_, _^_, _≤_, _<_}
 use native.Mathlib.Nat.{pow-suc, mul-comm, div-add-mod', mod-lt, div-lt-iff-lt-mul}
 use native.Mathlib.Numerals.{add-one}
 use native.Mathlib.Omega.{arith}
+use borrow.Author.Tests.{eq-eqb, ne-eqb, eqb-true, eqb-false}
+use lib.Dec.{eqb}
 use lib.IntN.{ℤ, pos}
 use lib.ListN.{getD}
 use lib.Pow.{pow-pos}
@@ -19,8 +21,35 @@ use Rattle.life.specs.Plane.{onPlane}
 use Rattle.life.specs.Rows.{rowNumber, rowOf, digitIn, cellOf}
 use Rattle.life.proofs.OnPlane.{on-board, state-small}
 use Rattle.life.proofs.Rows.{row-cells}
-use Rattle.solver.specs.Grid.{population}
-use Rattle.solver.specs.Rows.{live}
+use Rattle.solver.specs.Grid.{score}
+use Rattle.solver.specs.Rows.{cellWorth, rowWorth}
+
+-- ---- marks
+pub data MarkIs (mark : ℕ) : Type 0 where
+  isDead : mark ≡ 1 → MarkIs mark
+  isLive : mark ≡ 2 → MarkIs mark
+  isFree : (mark ≡ 1 → ⊥) → (mark ≡ 2 → ⊥) → MarkIs mark
+
+pub mark-is : (mark : ℕ) → MarkIs mark
+mark-is mark = go (eqb mark 1) refl (eqb mark 2) refl
+  where
+    go : (s : Bool) → eqb mark 1 ≡ s → (t : Bool) → eqb mark 2 ≡ t → MarkIs mark
+    go true e t f = isDead (eqb-true mark 1 e)
+    go false e true f = isLive (eqb-true mark 2 f)
+    go false e false f = isFree (eqb-false mark 1 e) (eqb-false mark 2 f)
+
+-- a given cell earns nothing, a free one what it is
+pub worth-dead : (mark cell : ℕ) → mark ≡ 1 → cellWorth mark cell ≡ 0
+unfolding cellWorth
+worth-dead mark cell e = rw (eq-eqb mark 1 e)
+
+pub worth-live : (mark cell : ℕ) → mark ≡ 2 → cellWorth mark cell ≡ 0
+unfolding cellWorth
+worth-live mark cell e = rw (ne-eqb mark 1 (omega arith), eq-eqb mark 2 e)
+
+pub worth-free : (mark cell : ℕ) → (mark ≡ 1 → ⊥) → (mark ≡ 2 → ⊥) → cellWorth mark cell ≡ cell
+unfolding cellWorth
+worth-free mark cell p q = rw (ne-eqb mark 1 p, ne-eqb mark 2 q)
 
 -- ---- a row's number
 -- equal cells read as equal numbers
@@ -67,26 +96,40 @@ module _ {w h : ℕ} {board : List ℕ} (b : Board w h board) where
       ap (λ (f : ℤ → ℕ). f (pos (suc k))) (row-cells b (suc r)) in
       rw (add-one k) (rw (among-yes w (suc k) (omega arith) q) at e ∙ on-board w h board r k p q)
 
-  -- ---- live cells
-  pub live-row : (r : ℕ) → r < h → live w (rowOf w h board (suc r)) ≡ total (λ k. getD board (r * w + k) 0) w
-  unfolding live
-  live-row r l = total-same (λ k. digitIn w (rowOf w h board (suc r)) (k + 1)) (λ k. getD board (r * w + k) 0) w (λ k q. row-digit r k l q)
+  -- ---- worth
+  abbrev earns : List ℕ → ℕ → ℕ
+  earns g p = cellWorth (getD g p 0) (getD board p 0)
+
+  worth-row : (g : List ℕ) (r : ℕ) → r < h → rowWorth w g (r * w) (rowOf w h board (suc r)) ≡ total (λ k. earns g (r * w + k)) w
+  unfolding rowWorth
+  worth-row g r l =
+      total-same (λ k. cellWorth (getD g (r * w + k) 0) (digitIn w (rowOf w h board (suc r)) (k + 1))) (λ k. earns g (r * w + k)) w
+      (λ k q. ap (cellWorth (getD g (r * w + k) 0)) (row-digit r k l q))
 
   -- one row more
-  pub population-more : (r : ℕ) → r < h → population w (suc r) board ≡ population w r board + live w (rowOf w h board (suc r))
-  unfolding population
-  population-more r l =
+  pub score-more : (g : List ℕ) (r : ℕ) → r < h → score w (suc r) g board ≡ score w r g board + rowWorth w g (r * w) (rowOf w h board (suc r))
+  unfolding score
+  score-more g r l =
       let e : w * suc r ≡ r * w + w = omega arith in
       let f : w * r ≡ r * w = mul-comm w r in
-      rw (e, f, live-row r l) (total-add (λ p. getD board p 0) (r * w) w)
+      rw (e, f, worth-row g r l) (total-add (earns g) (r * w) w)
 
-pub population-none : (w : ℕ) (board : List ℕ) → population w 0 board ≡ 0
-unfolding population
-population-none w board = let e : w * 0 ≡ 0 = omega arith in rw e (total-none (λ p. getD board p 0))
+pub score-none : (w : ℕ) (g board : List ℕ) → score w 0 g board ≡ 0
+unfolding score
+score-none w g board = let e : w * 0 ≡ 0 = omega arith in rw e (total-none (λ p. cellWorth (getD g p 0) (getD board p 0)))
 
-pub live-le : (w c : ℕ) → live w c ≤ w
-unfolding live
-live-le w c = omega (arith, total-le (λ k. digitIn w c (k + 1)) 1 (λ k. omega arith) w)
+cell-worth-le : (mark cell : ℕ) → cellWorth mark cell ≤ cell
+cell-worth-le mark cell = go (mark-is mark)
+  where
+    go : MarkIs mark → cellWorth mark cell ≤ cell
+    go (isDead e) = omega (arith, worth-dead mark cell e)
+    go (isLive e) = omega (arith, worth-live mark cell e)
+    go (isFree p q) = omega (arith, worth-free mark cell p q)
+
+pub row-worth-le : (w : ℕ) (g : List ℕ) (at c : ℕ) → rowWorth w g at c ≤ w
+unfolding rowWorth
+row-worth-le w g at c =
+    omega (arith, total-le (λ k. cellWorth (getD g (at + k) 0) (digitIn w c (k + 1))) 1 (λ k. omega (arith, cell-worth-le (getD g (at + k) 0) (digitIn w c (k + 1)))) w)
 
 -- ---- a board is its rows
 -- a place of a board is a column of one of its rows, both counted from 0

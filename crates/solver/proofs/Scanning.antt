@@ -19,10 +19,10 @@ use Rattle.elimination.proofs.Kind.{offer-some, choose-scan}
 use Rattle.elimination.proofs.Order.{tied-refl}
 use Rattle.elimination.proofs.Sums.{sum-worse-ordered, tied-equal}
 use Rattle.life.specs.Rows.{becomes, stepsTo, agree}
-use Rattle.solver.specs.Rows.{live, rowKept}
+use Rattle.solver.specs.Rows.{rowWorth, rowKept}
 use Rattle.solver.specs.ScoreTable.{kindBy, choiceOf}
 use Rattle.solver.specs.Inner.{Found}
-use Rattle.solver.proofs.RowLaws.{live-le}
+use Rattle.solver.proofs.RowLaws.{row-worth-le}
 use Rattle.solver.specs.declared.best.Best.{Best}
 use Rattle.solver.specs.declared.best.Best.the-variants.{Nothing, Row}
 
@@ -53,7 +53,7 @@ module _ (next : ℕ → ℕ) (w : ℕ) (givens : List ℕ) (at a b : ℕ) (read
       go true = rw (lt-leb (read x) 600 l)
       go false = refl
 
-  pub offer-sum : (x : ℕ) → agree next w a b x ≡ true → rowKept w givens at x ≡ true → read x ≤ 600 → offers x ≡ some (live w x + read x)
+  pub offer-sum : (x : ℕ) → agree next w a b x ≡ true → rowKept w givens at x ≡ true → read x ≤ 600 → offers x ≡ some (rowWorth w givens at x + read x)
   offer-sum x p q l = rw (p, q, le-leb (read x) 600 l)
 
   -- ---- what the loop holds: one more than the best sum, or 0, and its row
@@ -118,7 +118,7 @@ module _ (next : ℕ → ℕ) (w : ℕ) (givens : List ℕ) (at a b : ℕ) (read
       let o = offer-some G 0 a b read r (B .worth) (B .offered) in
       record {
         row-lt = rw p at (B .inside);
-        number-le = omega (arith, tied-equal false (B .tied), o .worth, live-le w r, leb-true (read r) 600 (o .counted));
+        number-le = omega (arith, tied-equal false (B .tied), o .worth, row-worth-le w givens at r, leb-true (read r) 600 (o .counted));
       }
 
   pub found : (r : Best) → choiceOf r ≡ scan (G .comparison) offers (2 ^ w) → Found w r (choose G 0 a b read)

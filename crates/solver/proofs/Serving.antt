@@ -24,7 +24,7 @@ use Rattle.elimination.specs.FillThenChoose.{schedule}
 use Rattle.elimination.proofs.Numbers.{lt-or-ge}
 use Rattle.elimination.proofs.Machine.{advance-zero, after-units}
 use Rattle.elimination.proofs.FillThenChoose.{schedule-lengths}
-use Rattle.solver.specs.Grid.{population}
+use Rattle.solver.specs.Grid.{score}
 use Rattle.solver.specs.Jobs.{tableSize, boardLength, noneLength, liveOf, stageSays}
 use Rattle.solver.specs.Jobs as Jobs
 use Rattle.solver.specs.Units.{State}
@@ -33,7 +33,7 @@ use Rattle.solver.specs.declared.Stage.{Stage}
 use Rattle.solver.proofs.Powers.{four-two}
 use Rattle.solver.proofs.Fits.{Fits, pausable}
 use Rattle.solver.proofs.Endings.{kind}
-use Rattle.solver.proofs.Optimum.{boardOf, into-same, is-population}
+use Rattle.solver.proofs.Optimum.{boardOf, into-same, is-total}
 use Rattle.solver.proofs.TableLaws.{table-four}
 use Rattle.solver.proofs.Machine.{setup, markIn, view, at, machine, Here}
 use Rattle.solver.proofs.Memory.{Run, entries, first, after, filling, board-size, board-rest, board-rows, table-filled}
@@ -158,10 +158,10 @@ module _ {w h : ℕ} (z : Sized w h) (g t β : List ℕ) (size : length β ≡ w
     ends-board : after w h g t β (boardLength w h) .board ≡ best
     ends-board = ap boardIn ends-at ∙ into-same z g rows (T .lawful) β size
 
-    board-says : (s : State) → view s ≡ after w h g t β (boardLength w h) → stageSays (s .job .stage) ≡ Jobs.finished (population w h best)
+    board-says : (s : State) → view s ≡ after w h g t β (boardLength w h) → stageSays (s .job .stage) ≡ Jobs.finished (score w h g best)
     board-says s e =
         finished-says (s .job .stage) (ap markOf (e ∙ ends-at))
-        ∙ ap Jobs.finished (ap soFarOf (e ∙ ends-at) ∙ sym (is-population z g (rightEntry (kind w h g) h 0 0) rows T))
+        ∙ ap Jobs.finished (ap soFarOf (e ∙ ends-at) ∙ sym (is-total z g (rightEntry (kind w h g) h 0 0) rows T))
 
     never-none : (m : ℕ) → m ≤ boardLength w h → (s : State) → view s ≡ after w h g t β m → markIn (s .job .stage) ≡ infeasible → ⊥
     never-none m l s e n =
@@ -182,8 +182,8 @@ module _ {w h : ℕ} (z : Sized w h) (g t β : List ℕ) (size : length β ≡ w
           rest = board-rest w h g t β (boardLength w h) board-lasts m l;
         })
 
-    pub board-served : (cs : List Call) → Each (Fair g) cs s₀ → Served w h g (boardLength w h) (Jobs.finished (population w h best)) best cs s₀
-    board-served = served (boardLength w h) (Jobs.finished (population w h best)) best board-lasts board-says board-written ends-board
+    pub board-served : (cs : List Call) → Each (Fair g) cs s₀ → Served w h g (boardLength w h) (Jobs.finished (score w h g best)) best cs s₀
+    board-served = served (boardLength w h) (Jobs.finished (score w h g best)) best board-lasts board-says board-written ends-board
 
   -- there is none
   module _ (comes : ComesTo (machine w h g) (first w h g t β) (noneEnd (setup w h g) (course w h) t β) (suc (course w h .work 0))) where

@@ -9,7 +9,7 @@ use borrow.Author.Tests.{lt-ltb, le-ltb, eq-eqb, ne-eqb}
 use lib.ListN.{set}
 use Rattle.board.specs.Answers.{Answer, refuses}
 use Rattle.elimination.specs.Candidates.{nothing, chosen}
-use Rattle.solver.specs.Rows.{live, written}
+use Rattle.solver.specs.Rows.{rowWorth, written}
 use Rattle.solver.specs.Jobs.{tableSize, stageSays}
 use Rattle.solver.specs.Units.{next, unitPlace, unitEntry, filledTo, rowChoice, chosenTo, unitOf}
 use Rattle.solver.specs.Calls.{worksOn}
@@ -39,7 +39,7 @@ choosing-over r h last c x n m l e s p = rw (le-ltb (r + 1) h l, ← e) p
 -- ---- a row
 module _ (j : Job) (above last soFar : ℕ) (g t β : List ℕ) (r : ℕ) (e : r ≡ j .units - tableSize (j .width) (j .height)) where
   pub chosen-row : (c n : ℕ) (s : Stage) → rowChoice (j .width) (j .height) g t r above last ≡ chosen c n
-      → s ≡ chosenTo (j .height) (r + 1) last c (soFar + live (j .width) c)
+      → s ≡ chosenTo (j .height) (r + 1) last c (soFar + rowWorth (j .width) g (r * j .width) c)
       → Chosen j above last soFar g t β (Stepped.Next (record { width = j .width; height = j .height; units = j .units + 1; stage = s }))
       (written (j .width) c β (r * j .width) (j .width))
   chosen-row c n s f q = record { step = rw (← e, f, q); same = next-not-spoiled }

@@ -1,12 +1,15 @@
 -- The theorems of `specs/Theorems`, proved; the third demand is in `Third`, the round trip in `Fits`.
 -- Assumes nothing.
 use mathlib.Core.Path.{_≡_, refl, sym, _∙_, ap}
-use mathlib.Core.Bool.{false}
+use mathlib.Core.Bool.{false, cond}
 use mathlib.Core.List.{List, [], _∷_}
-use Prim.Native.Nat.{ℕ, zero, suc, _+_, _-_, _^_, _≤_, _<_}
+use Prim.Native.Nat.{ℕ, zero, suc, _+_, _*_, _-_, _^_, _≤_, _<_}
 use native.Mathlib.Omega.{arith}
-use borrow.Author.Tests.{leb-true, ltb-true}
+use borrow.Author.Tests.{eq-eqb, ne-eqb, leb-true, ltb-true}
+use lib.Dec.{eqb}
+use lib.ListN.{length, getD}
 use Rattle.board.specs.Boards.{Sized}
+use Rattle.board.proofs.Sums.{total-sum}
 use Rattle.elimination.specs.Order.{isWorse, isTied}
 use Rattle.elimination.specs.Candidates.{NoBetterRows}
 use Rattle.elimination.specs.Kind.{entry, rightEntry, rightRows, worthOf}
@@ -14,10 +17,12 @@ use Rattle.elimination.specs.Endings.{total, Solved, noEnding, anEnding}
 use Rattle.elimination.proofs.Kind.{entry-more, right-entry-last, right-entry-more, choose-ext}
 use Rattle.elimination.proofs.Sums.{tied-equal}
 use Rattle.elimination.proofs.Endings.{total-none, total-more, elimination-solves, ending-counts}
-use Rattle.solver.specs.Rows.{live}
+use Rattle.solver.specs.Grid.{Solution, BestBy, score, population}
+use Rattle.solver.specs.Rows.{cellWorth, rowWorth}
 use Rattle.solver.specs.ScoreTable.{readsOf}
 use Rattle.solver.specs.Theorems as Theorems
-use Rattle.solver.specs.Theorems.{allRows, EndingsAreSolutions, BestOrNone, best, none, ChoiceIsOptimal, liveInRows, Greatest, greatest, RightLayer, EntriesRight}
+use Rattle.solver.specs.Theorems.{allRows, EndingsAreSolutions, BestOrNone, best, none, ChoiceIsOptimal, rowsWorth, Greatest, greatest, RightLayer, EntriesRight, givenLive, GivensApart, SameBest}
+use Rattle.solver.proofs.RowLaws.{MarkIs, isDead, isLive, isFree, mark-is, worth-dead, worth-live, worth-free}
 use Rattle.solver.proofs.Endings.{kind, kind-laws, solution-ends, ends-solution}
 use Rattle.solver.proofs.Optimum.{boardOf, is-rows, is-score, optimal}
 
@@ -35,13 +40,13 @@ choice-is-optimal w h g z = go (elimination-solves (kind w h g) h (kind-laws w h
         best (boardOf w h cs) (optimal z g x cs T) (is-rows z g x cs T) (is-score z g x cs T)
 
 -- ---- entries
-live-total : (w h : ℕ) (g cs : List ℕ) → liveInRows w cs ≡ total (kind w h g) cs
-unfolding liveInRows
-live-total w h g [] = sym (total-none (kind w h g))
-live-total w h g (c ∷ cs) = ap (λ (x : ℕ). live w c + x) (live-total w h g cs) ∙ sym (total-more (kind w h g) c cs)
+worth-total : (w h : ℕ) (g cs : List ℕ) → rowsWorth w h g cs ≡ total (kind w h g) cs
+unfolding rowsWorth
+worth-total w h g [] = sym (total-none (kind w h g))
+worth-total w h g (c ∷ cs) = ap (λ (x : ℕ). rowWorth w g ((h - suc (length cs)) * w) c + x) (worth-total w h g cs) ∙ sym (total-more (kind w h g) c cs)
 
 module _ {w h : ℕ} (z : Sized w h) (g : List ℕ) where
-  -- an entry is the greatest number of live cells
+  -- an entry is the greatest worth
   right-greatest : (k a b : ℕ) → k ≤ h → Greatest w h g k a b (rightEntry (kind w h g) k a b)
   right-greatest k a b l = go (elimination-solves (kind w h g) h (kind-laws w h g z) k a b l)
     where
@@ -49,13 +54,13 @@ module _ {w h : ℕ} (z : Sized w h) (g : List ℕ) where
       go (noEnding n p q) = Theorems.noEnding n p
       go (anEnding T) =
           let cs = rightRows (kind w h g) k a b in
-          greatest cs (T .lawful) (live-total w h g cs ∙ tied-equal false (T .worth))
+          greatest cs (T .lawful) (worth-total w h g cs ∙ tied-equal false (T .worth))
           (leb-true (rightEntry (kind w h g) k a b) 600 (ending-counts (kind w h g) (kind-laws w h g z) k a b l cs (T .lawful))) (λ ds D. most ds (T .unbeaten ds D))
         where
           most : (ds : List ℕ) → NoBetterRows (kind w h g .comparison) (total (kind w h g) ds) ds (rightEntry (kind w h g) k a b) (rightRows (kind w h g) k a b)
-              → liveInRows w ds ≤ rightEntry (kind w h g) k a b
-          most ds (isWorse p) = omega (arith, live-total w h g ds, ltb-true (total (kind w h g) ds) (rightEntry (kind w h g) k a b) p)
-          most ds (isTied e f) = omega (arith, live-total w h g ds, tied-equal false e)
+              → rowsWorth w h g ds ≤ rightEntry (kind w h g) k a b
+          most ds (isWorse p) = omega (arith, worth-total w h g ds, ltb-true (total (kind w h g) ds) (rightEntry (kind w h g) k a b) p)
+          most ds (isTied e f) = omega (arith, worth-total w h g ds, tied-equal false e)
 
   -- over right entries the rule gives a right entry
   rule-right : (i a b : ℕ) → b < 2 ^ w → (t : List ℕ) → (i < h → RightLayer w h g t (i + 1)) → (k : ℕ) → h - i ≡ k
@@ -72,3 +77,40 @@ entries-right w h g z i a b l q = record {
   rule = λ t right. rule-right z g i a b q t right (h - i) refl;
   means = right-greatest z g (h - i) a b (omega arith);
 }
+
+-- ---- the score and all live cells
+-- a live cell is free, or given live
+cell-apart : (mark cell : ℕ) → (mark ≡ 1 → cell ≡ 0) → (mark ≡ 2 → cell ≡ 1) → cell ≡ cellWorth mark cell + cond (eqb mark 2) 1 0
+cell-apart mark cell d l = go (mark-is mark)
+  where
+    go : MarkIs mark → cell ≡ cellWorth mark cell + cond (eqb mark 2) 1 0
+    go (isDead e) = rw (ne-eqb mark 2 (omega arith), worth-dead mark cell e) (omega (arith, d e))
+    go (isLive e) = rw (eq-eqb mark 2 e, worth-live mark cell e) (omega (arith, l e))
+    go (isFree p q) = rw (ne-eqb mark 2 q) (omega (arith, worth-free mark cell p q))
+
+pub givens-apart : GivensApart
+unfolding population score givenLive
+givens-apart w h g board K =
+    total-sum (λ p. getD board p 0) (λ p. cellWorth (getD g p 0) (getD board p 0)) (λ p. cond (eqb (getD g p 0) 2) 1 0) (w * h)
+    (λ p l. cell-apart (getD g p 0) (getD board p 0) (K .dead p l) (K .live p l))
+
+-- counts that order the solutions alike have the same best board
+module _ {w h : ℕ} {g board : List ℕ} where
+  best-same : {count count′ : List ℕ → ℕ}
+      → ((a b : List ℕ) → Solution w h g a → Solution w h g b → count a ≤ count b → count′ a ≤ count′ b)
+      → ((a b : List ℕ) → Solution w h g a → Solution w h g b → count′ a ≡ count′ b → count a ≡ count b)
+      → BestBy count w h g board → BestBy count′ w h g board
+  best-same le eq B = record {
+    solution = B .solution;
+    most = λ a S. le a board S (B .solution) (B .most a S);
+    earliest = λ a S e. B .earliest a S (eq a board S (B .solution) e);
+  }
+
+pub same-best : SameBest
+same-best w h g board = (
+  best-same (λ a b S T l. omega (arith, apart a S, apart b T)) (λ a b S T e. omega (arith, apart a S, apart b T)),
+  best-same (λ a b S T l. omega (arith, apart a S, apart b T)) (λ a b S T e. omega (arith, apart a S, apart b T)),
+)
+  where
+    apart : (a : List ℕ) → Solution w h g a → population w h a ≡ score w h g a + givenLive w h g
+    apart a S = givens-apart w h g a (S .keeps)

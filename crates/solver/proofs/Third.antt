@@ -18,7 +18,7 @@ use Rattle.board.proofs.Checks.{sized}
 use Rattle.elimination.specs.Kind.{rightEntry, rightRows}
 use Rattle.elimination.specs.Completion.{Completion, toBoard, toNone}
 use Rattle.elimination.proofs.FillThenChoose.{fill-then-choose-completes}
-use Rattle.solver.specs.Grid.{population}
+use Rattle.solver.specs.Grid.{score}
 use Rattle.solver.specs.Jobs.{tableSize, boardLength, noneLength, start, jobSays, openRule, openedSays, jobFits}
 use Rattle.solver.specs.Jobs as Jobs
 use Rattle.solver.specs.Units.{State}
@@ -81,7 +81,7 @@ module _ {w h : ℕ} (z : Sized w h) (g t β : List ℕ) (shut : length β ≡ w
       long = omega (arith, table-pos z)
 
       go : BestOrNone w h g → Outcome w h g cs (opened w h t β)
-      go (best board O rows score) = solved board O (idle-served (boardLength w h) (Jobs.finished (population w h board)) board long cs f)
+      go (best board O rows is) = solved board O (idle-served (boardLength w h) (Jobs.finished (score w h g board)) board long cs f)
       go (none n e) = unsolvable n (idle-served (noneLength w h) Jobs.infeasible β (omega arith) cs f)
 
 -- ---- the theorem

@@ -43,9 +43,9 @@ abbrev StepLengths : List ℕ → List ℕ → Step → Type 0
 StepLengths t β (next s′) = Lengths t β (s′ .table) (s′ .board)
 StepLengths t β spoiled = Unit {0}
 
-choose-lengths : (w h u r last soFar : ℕ) (t β : List ℕ) (o : Choice ℕ) → StepLengths t β (chooseStep w h u r last soFar t β o)
-choose-lengths w h u r last soFar t β (chosen c n) = record { table = refl; board = written-length w c β (r * w) w }
-choose-lengths w h u r last soFar t β nothing = go (eqb r 0)
+choose-lengths : (g : List ℕ) (w h u r last soFar : ℕ) (t β : List ℕ) (o : Choice ℕ) → StepLengths t β (chooseStep g w h u r last soFar t β o)
+choose-lengths g w h u r last soFar t β (chosen c n) = record { table = refl; board = written-length w c β (r * w) w }
+choose-lengths g w h u r last soFar t β nothing = go (eqb r 0)
   where
     go : (b : Bool) → StepLengths t β (cond b (next record { job = jobAt w h (u + 1) Stage.Infeasible; table = t; board = β }) spoiled)
     go true = record { table = refl; board = refl }
@@ -54,7 +54,7 @@ choose-lengths w h u r last soFar t β nothing = go (eqb r 0)
 stage-lengths : (g : List ℕ) (w h u : ℕ) (s : Stage) (t β : List ℕ) → StepLengths t β (stageStep g w h u s t β)
 stage-lengths g w h u Stage.Filling t β = record { table = length-set t (unitPlace w h u) (unitEntry w h g t u); board = refl }
 stage-lengths g w h u (Stage.Choosing above last soFar) t β =
-    choose-lengths w h u (u - tableSize w h) last soFar t β (rowChoice w h g t (u - tableSize w h) above last)
+    choose-lengths g w h u (u - tableSize w h) last soFar t β (rowChoice w h g t (u - tableSize w h) above last)
 stage-lengths g w h u (Stage.Finished above last score) t β = record { table = refl; board = refl }
 stage-lengths g w h u Stage.Infeasible t β = record { table = refl; board = refl }
 

@@ -8,7 +8,7 @@ use lib.ListN.{length, getD}
 use Rattle.board.specs.Answers.{Answer, gives, refuses, passed}
 use Rattle.elimination.specs.Kind.{rightEntry}
 use Rattle.rule.specs.Rule.{conway}
-use Rattle.solver.specs.Grid.{Solution, Optimal, population}
+use Rattle.solver.specs.Grid.{Solution, Optimal, score}
 use Rattle.solver.specs.ScoreTable.{kindOf}
 use Rattle.solver.specs.Jobs.{tableSize, boardLength, noneLength, numbersOf, jobSays, checkpointSays, checkpointFits, jobFits, jobOf, pauseRule, resumeRule, workCheck, unfinished, finished, infeasible}
 use Rattle.solver.specs.Units.{State, rowsAfter, rowA, rowB, unitPlace}
@@ -157,10 +157,11 @@ pub record Served (w h : ℕ) (givens : List ℕ) (long : ℕ) (final : Answer) 
   pub progress : Progress w h givens wanted s (run calls s)
   pub board : long ≤ summed calls s → run calls s .board ≡ wanted
 
--- Either there is a best board, first in board order among the best, and the job comes to it and to its score; or there is no still board that
--- keeps the givens, the job says so, and the lent board stays unwritten.
+-- Either there is a best board, first in board order among the best, and the job comes to it and to its score, the live cells that were free
+-- (`SameBest` of `Theorems`: it is the best by all live cells too); or there is no still board that keeps the givens, the job says so, and the
+-- lent board stays unwritten.
 pub data Outcome (w h : ℕ) (givens : List ℕ) (calls : List Call) (s : State) : Type 0 where
-  solved : (best : List ℕ) → Optimal w h givens best → Served w h givens (boardLength w h) (finished (population w h best)) best calls s
+  solved : (best : List ℕ) → Optimal w h givens best → Served w h givens (boardLength w h) (finished (score w h givens best)) best calls s
       → Outcome w h givens calls s
   unsolvable : ((board : List ℕ) → Solution w h givens board → ⊥) → Served w h givens (noneLength w h) infeasible (s .board) calls s
       → Outcome w h givens calls s

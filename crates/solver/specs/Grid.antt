@@ -9,6 +9,7 @@ use Rattle.board.specs.Sums.{total}
 use Rattle.board.specs.Boards.{Board}
 use Rattle.life.specs.Plane.{onPlane, Still}
 use Rattle.life.specs.Rows.{rowOf}
+use Rattle.solver.specs.Rows.{cellWorth}
 
 -- a board keeps the givens: every given cell has its given state, 1 given dead, 2 given live
 pub record KeepsGivens (w h : ℕ) (givens board : List ℕ) : Type 0 where
@@ -21,7 +22,11 @@ pub record Solution (w h : ℕ) (givens board : List ℕ) : Type 0 where
   pub still : Still (onPlane w h board)
   pub keeps : KeepsGivens w h givens board
 
--- the score: the number of live cells
+-- the score: the number of live cells that were free
+unfoldable pub score : ℕ → ℕ → List ℕ → List ℕ → ℕ
+score w h givens board = total (λ p. cellWorth (getD givens p 0) (getD board p 0)) (w * h)
+
+-- the number of all live cells, given or not
 unfoldable pub population : ℕ → ℕ → List ℕ → ℕ
 population w h board = total (λ p. getD board p 0) (w * h)
 
@@ -32,8 +37,12 @@ pub record Precedes (w h : ℕ) (board other : List ℕ) : Type 0 where
   pub equal : (r : ℕ) → r < row → rowOf w h board r ≡ rowOf w h other r
   pub smaller : rowOf w h board row < rowOf w h other row
 
--- the board that is wanted: it is a solution, no solution has more live cells, and any other that has as many comes later in board order
-pub record Optimal (w h : ℕ) (givens board : List ℕ) : Type 0 where
+-- best by a count of cells: it is a solution, no solution counts more, and any other that counts as many comes later in board order
+pub record BestBy (count : List ℕ → ℕ) (w h : ℕ) (givens board : List ℕ) : Type 0 where
   pub solution : Solution w h givens board
-  pub most : (other : List ℕ) → Solution w h givens other → population w h other ≤ population w h board
-  pub earliest : (other : List ℕ) → Solution w h givens other → population w h other ≡ population w h board → (other ≡ board) ⊎ Precedes w h board other
+  pub most : (other : List ℕ) → Solution w h givens other → count other ≤ count board
+  pub earliest : (other : List ℕ) → Solution w h givens other → count other ≡ count board → (other ≡ board) ⊎ Precedes w h board other
+
+-- the board that is wanted: best by its score
+abbrev pub Optimal : ℕ → ℕ → List ℕ → List ℕ → Type 0
+Optimal w h givens board = BestBy (score w h givens) w h givens board

@@ -1,4 +1,4 @@
--- Document 01, "Grid, row word, givens", of one row: its live cells, the givens that it keeps, and its cells as bytes of a board.
+-- Document 01, "Grid, row word, givens", and Req 01, of one row: what it is worth, the givens that it keeps, and its cells as bytes of a board.
 -- A row is its number; column k + 1 is counted by k, from 0.
 -- Assumes nothing.
 use mathlib.Core.Bool.{Bool, true, cond}
@@ -10,13 +10,17 @@ use Rattle.board.specs.Search.{allBelow}
 use Rattle.board.specs.Sums.{total}
 use Rattle.life.specs.Rows.{digitIn}
 
--- the live cells of a row
-unfoldable pub live : ℕ → ℕ → ℕ
-live w row = total (λ k. digitIn w row (k + 1)) w
-
 -- a cell keeps its mark: 1 given dead, 2 given live, otherwise free
 unfoldable pub markKept : ℕ → ℕ → Bool
 markKept mark cell = cond (eqb mark 1) (eqb cell 0) (cond (eqb mark 2) (eqb cell 1) true)
+
+-- what a cell earns: a live cell counts where it is free, a given one doesn't
+unfoldable pub cellWorth : ℕ → ℕ → ℕ
+cellWorth mark cell = cond (eqb mark 1) 0 (cond (eqb mark 2) 0 cell)
+
+-- the worth of a row: its live cells that are free, by the givens that start at a place of the grid
+unfoldable pub rowWorth : ℕ → List ℕ → ℕ → ℕ → ℕ
+rowWorth w givens at row = total (λ k. cellWorth (getD givens (at + k) 0) (digitIn w row (k + 1))) w
 
 -- a row keeps the givens that start at a place of the grid
 unfoldable pub rowKept : ℕ → List ℕ → ℕ → ℕ → Bool

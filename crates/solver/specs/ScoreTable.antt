@@ -9,20 +9,20 @@ use Rattle.elimination.specs.Candidates.{Choice, nothing, chosen}
 use Rattle.elimination.specs.Kind.{Kind}
 use Rattle.elimination.specs.Sums.{SumRules, sumKind}
 use Rattle.life.specs.Rows.{agree}
-use Rattle.solver.specs.Rows.{live, rowKept}
+use Rattle.solver.specs.Rows.{rowWorth, rowKept}
 use Rattle.solver.specs.declared.best.Best.{Best}
 use Rattle.solver.specs.declared.best.Best.the-variants.{Nothing, Row}
 
--- What is asked: the greatest number of live cells, among equals the smallest row; 65,535 stands for none, and a number read above 600 counts as
--- none. Row c may stand below a over b where the three agree and c keeps the givens of its row, which start at `givensAt k` with k rows after it;
--- the board may end below a over b where (a, b, 0) and (b, 0, 0) agree. `agreed` is whether three rows agree.
+-- What is asked: the greatest number of free live cells, among equals the smallest row; 65,535 stands for none, and a number read above 600
+-- counts as none. Row c may stand below a over b where the three agree and c keeps the givens of its row, which start at `givensAt k` with k rows
+-- after it; the board may end below a over b where (a, b, 0) and (b, 0, 0) agree. `agreed` is whether three rows agree.
 abbrev pub rules : (ℕ → ℕ → ℕ → Bool) → ℕ → (ℕ → ℕ) → List ℕ → SumRules
 rules agreed w givensAt givens = record {
   least = false;
   greaterFirst = false;
   absent = 65535;
   limit = 600;
-  worth = λ k c. live w c;
+  worth = λ k c. rowWorth w givens (givensAt k) c;
   codes = 2 ^ w;
   may = λ k a b c. agreed a b c && rowKept w givens (givensAt k) c;
   mayEnd = λ a b. agreed a b 0 && agreed b 0 0;

@@ -1,17 +1,22 @@
--- What is proved of the rules over the rows of a grid: an ending is a solution, the rows that are chosen are the wanted board, and an entry is
--- what document 01, "The score table", says it is. The third demand and the round trip are stated in `Demand` and `Calls`.
+-- What is proved of the rules over the rows of a grid: an ending is a solution, the rows that are chosen are the wanted board, an entry is what
+-- document 01, "The score table", says it is, and the wanted board is the best by all live cells too. The third demand and the round trip are
+-- stated in `Demand` and `Calls`.
 -- Assumes nothing.
 use mathlib.Core.Path.{_≡_}
+use mathlib.Core.Bool.{cond}
 use mathlib.Core.Logic.{_↔_}
 use mathlib.Core.List.{List, [], _∷_}
-use Prim.Native.Nat.{ℕ, zero, suc, _+_, _-_, _^_, _≤_, _<_}
+use Prim.Native.Nat.{ℕ, zero, suc, _+_, _*_, _-_, _^_, _≤_, _<_}
+use lib.Dec.{eqb}
+use lib.ListN.{length, getD}
 use Rattle.board.specs.Boards.{Sized, Board}
+use Rattle.board.specs.Sums.{total}
 use Rattle.elimination.specs.Kind.{entry, rightEntry, rightRows}
 use Rattle.elimination.specs.Endings.{Ending}
 use Rattle.rule.specs.Rule.{conway}
 use Rattle.life.specs.Rows.{rowOf}
-use Rattle.solver.specs.Grid.{Solution, Optimal, population}
-use Rattle.solver.specs.Rows.{live}
+use Rattle.solver.specs.Grid.{KeepsGivens, Solution, BestBy, Optimal, score, population}
+use Rattle.solver.specs.Rows.{rowWorth}
 use Rattle.solver.specs.ScoreTable.{kindOf, readsOf}
 
 -- ---- boards and endings
@@ -36,22 +41,22 @@ EndingsAreSolutions = (w h : ℕ) (givens board : List ℕ) → Board w h board 
 -- by right entries either the wanted board is chosen, and the right entry is its score; or there is no solution, and the right entry says so
 pub data BestOrNone (w h : ℕ) (givens : List ℕ) : Type 0 where
   best : (board : List ℕ) → Optimal w h givens board → allRows w h board ≡ rightRows (kindOf conway w h givens) h 0 0
-      → population w h board ≡ rightEntry (kindOf conway w h givens) h 0 0 → BestOrNone w h givens
+      → score w h givens board ≡ rightEntry (kindOf conway w h givens) h 0 0 → BestOrNone w h givens
   none : ((board : List ℕ) → Solution w h givens board → ⊥) → rightEntry (kindOf conway w h givens) h 0 0 ≡ 65535 → BestOrNone w h givens
 
 abbrev pub ChoiceIsOptimal : Type 0
 ChoiceIsOptimal = (w h : ℕ) (givens : List ℕ) → Sized w h → BestOrNone w h givens
 
 -- ---- entries
--- the live cells of rows
-unfoldable pub liveInRows : ℕ → List ℕ → ℕ
-liveInRows w [] = 0
-liveInRows w (c ∷ cs) = live w c + liveInRows w cs
+-- what the last rows of a grid of h rows are worth
+unfoldable pub rowsWorth : ℕ → ℕ → List ℕ → List ℕ → ℕ
+rowsWorth w h givens [] = 0
+rowsWorth w h givens (c ∷ cs) = rowWorth w givens ((h - suc (length cs)) * w) c + rowsWorth w h givens cs
 
--- x is the greatest number of live cells of k rows that end the board below a over b, or 65,535 where there are none such
+-- x is the greatest worth of k rows that end the board below a over b, or 65,535 where there are none such
 pub data Greatest (w h : ℕ) (givens : List ℕ) (k a b x : ℕ) : Type 0 where
-  greatest : (cs : List ℕ) → GridEnding w h givens k a b cs → liveInRows w cs ≡ x → x ≤ 600
-      → ((ds : List ℕ) → GridEnding w h givens k a b ds → liveInRows w ds ≤ x) → Greatest w h givens k a b x
+  greatest : (cs : List ℕ) → GridEnding w h givens k a b cs → rowsWorth w h givens cs ≡ x → x ≤ 600
+      → ((ds : List ℕ) → GridEnding w h givens k a b ds → rowsWorth w h givens ds ≤ x) → Greatest w h givens k a b x
   noEnding : ((ds : List ℕ) → GridEnding w h givens k a b ds → ⊥) → x ≡ 65535 → Greatest w h givens k a b x
 
 -- layer i of a table is right: each of its entries (i, b, c) is the right one
@@ -59,7 +64,7 @@ abbrev pub RightLayer : ℕ → ℕ → List ℕ → List ℕ → ℕ → Type 0
 RightLayer w h givens table i = (b c : ℕ) → b < 2 ^ w → c < 2 ^ w → readsOf w table i b c ≡ rightEntry (kindOf conway w h givens) (h - i) b c
 
 -- over a table whose layer i + 1 is right, the rule of entry (i, a, b) gives the right entry; layer h reads no layer. And a right entry is the
--- greatest number of live cells in rows i + 1 to h when row i - 1 is a and row i is b
+-- greatest number of free live cells in rows i + 1 to h when row i - 1 is a and row i is b
 pub record EntryRight (w h : ℕ) (givens : List ℕ) (i a b : ℕ) : Type 0 where
   pub rule : (table : List ℕ) → (i < h → RightLayer w h givens table (i + 1))
       → entry (kindOf conway w h givens) (h - i) a b (readsOf w table (i + 1) b) ≡ rightEntry (kindOf conway w h givens) (h - i) a b
@@ -67,3 +72,16 @@ pub record EntryRight (w h : ℕ) (givens : List ℕ) (i a b : ℕ) : Type 0 whe
 
 abbrev pub EntriesRight : Type 0
 EntriesRight = (w h : ℕ) (givens : List ℕ) → Sized w h → (i a b : ℕ) → i ≤ h → b < 2 ^ w → EntryRight w h givens i a b
+
+-- ---- the score and all live cells
+-- the cells that are given live
+unfoldable pub givenLive : ℕ → ℕ → List ℕ → ℕ
+givenLive w h givens = total (λ p. cond (eqb (getD givens p 0) 2) 1 0) (w * h)
+
+-- every board that keeps the givens has the same given live cells beside those that it scores
+abbrev pub GivensApart : Type 0
+GivensApart = (w h : ℕ) (givens board : List ℕ) → KeepsGivens w h givens board → population w h board ≡ score w h givens board + givenLive w h givens
+
+-- so the wanted board is the best by all live cells too
+abbrev pub SameBest : Type 0
+SameBest = (w h : ℕ) (givens board : List ℕ) → Optimal w h givens board ↔ BestBy (population w h) w h givens board

@@ -8,7 +8,7 @@ use lib.ListN.{set}
 use Rattle.elimination.specs.Candidates.{Choice, nothing, chosen}
 use Rattle.elimination.specs.Kind.{choose, entry}
 use Rattle.rule.specs.Rule.{conway}
-use Rattle.solver.specs.Rows.{live, written}
+use Rattle.solver.specs.Rows.{rowWorth, written}
 use Rattle.solver.specs.ScoreTable.{kindOf, placeOf, readsOf}
 use Rattle.solver.specs.Jobs.{tableSize}
 use Rattle.solver.specs.declared.Stage.{Stage}
@@ -62,26 +62,26 @@ fillStep givens w h u table board =
 unfoldable pub rowChoice : ℕ → ℕ → List ℕ → List ℕ → ℕ → ℕ → ℕ → Choice ℕ
 rowChoice w h givens table r above last = choose (kindOf conway w h givens) (h - suc r) above last (readsOf w table (r + 1) last)
 
--- the stage once k rows are chosen, the last two of them `above` and `last`, with n live cells
+-- the stage once k rows are chosen, the last two of them `above` and `last`, worth n
 abbrev pub chosenTo : ℕ → ℕ → ℕ → ℕ → ℕ → Stage
 chosenTo h k above last n = cond (ltb k h) (Stage.Choosing above last n) (Stage.Finished above last n)
 
 -- a row is written into its part of the board; where there is none, the job ends at row 1, and the table is spoiled at a later row
-abbrev pub chooseStep : ℕ → ℕ → ℕ → ℕ → ℕ → ℕ → List ℕ → List ℕ → Choice ℕ → Step
-chooseStep w h u r last soFar table board (chosen c n) =
+abbrev pub chooseStep : List ℕ → ℕ → ℕ → ℕ → ℕ → ℕ → ℕ → List ℕ → List ℕ → Choice ℕ → Step
+chooseStep givens w h u r last soFar table board (chosen c n) =
     next record {
-      job = record { width = w; height = h; units = u + 1; stage = chosenTo h (r + 1) last c (soFar + live w c) };
+      job = record { width = w; height = h; units = u + 1; stage = chosenTo h (r + 1) last c (soFar + rowWorth w givens (r * w) c) };
       table = table;
       board = written w c board (r * w) w;
     }
-chooseStep w h u r last soFar table board nothing =
+chooseStep givens w h u r last soFar table board nothing =
     cond (eqb r 0) (next record { job = record { width = w; height = h; units = u + 1; stage = Stage.Infeasible }; table = table; board = board }) spoiled
 
 -- ---- a unit, by the job's stage; an ended job stays as it is
 abbrev pub stageStep : List ℕ → ℕ → ℕ → ℕ → Stage → List ℕ → List ℕ → Step
 stageStep givens w h u Stage.Filling table board = fillStep givens w h u table board
 stageStep givens w h u (Stage.Choosing above last soFar) table board =
-    chooseStep w h u (u - tableSize w h) last soFar table board (rowChoice w h givens table (u - tableSize w h) above last)
+    chooseStep givens w h u (u - tableSize w h) last soFar table board (rowChoice w h givens table (u - tableSize w h) above last)
 stageStep givens w h u (Stage.Finished above last score) table board =
     next record { job = record { width = w; height = h; units = u; stage = Stage.Finished above last score }; table = table; board = board }
 stageStep givens w h u Stage.Infeasible table board =

@@ -10,7 +10,7 @@ ghost use Rattle.solver.specs.Inner.{skipTo, Found};
 
 pub enum Best {
     Nothing,
-    // The row, and its live cells with the number read for it.
+    // The row, and its worth with the number read for it.
     Row(usize, usize),
 }
 
@@ -24,7 +24,7 @@ fn next_row(w: usize, x: usize, j: usize) -> usize
 }
 
 // The best row below a over b: of the rows c that agree with the two and keep the givens that start at a place, and for which the table has a
-// number from `first` on that isn't none, the one with the greatest sum of live cells and number, among equals the smallest.
+// number from `first` on that isn't none, the one with the greatest sum of its worth and the number, among equals the smallest.
 pub fn best_row(
     next: &[u8; 512],
     w: usize,
@@ -67,7 +67,7 @@ pub fn best_row(
         if 600 < e {
             continue 'rows;
         }
-        let v = 1 + rows::live_cells(w, x) + e;
+        let v = 1 + rows::row_worth(w, givens, at, x) + e;
         if best < v {
             best = v;
             row = x;

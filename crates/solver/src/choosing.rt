@@ -34,8 +34,9 @@ pub fn choose(
     let h = job.height;
     let u = job.units;
     let r = u - numbers::table_size(w, h);
+    let at = r * w;
     let first = r * filling::layer_size(w) + last * rows::row_codes(w);
-    match best::best_row(next, w, above, last, givens, r * w, table, first) {
+    match best::best_row(next, w, above, last, givens, at, table, first) {
         Best::Nothing => {
             if r != 0 {
                 return Stepped::Spoiled;
@@ -48,8 +49,8 @@ pub fn choose(
             })
         }
         Best::Row(c, _) => {
-            rows::write_row(w, c, board, r * w);
-            let n = live + rows::live_cells(w, c);
+            rows::write_row(w, c, board, at);
+            let n = live + rows::row_worth(w, givens, at, c);
             let stage = if r + 1 < h {
                 Stage::Choosing {
                     above: last,

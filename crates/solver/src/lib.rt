@@ -12,7 +12,7 @@ mod working;
 
 ghost use Rattle.solver.specs.Calls.{Opens, Pauses, Resumes, Works};
 
-// What a job does next, with that stage's numbers: the last two rows chosen, and the live cells so far.
+// What a job does next, with that stage's numbers: the last two rows chosen, and the live cells so far that were free.
 pub enum Stage {
     Filling,
     Choosing {
@@ -66,7 +66,7 @@ pub enum Resumed {
 // What a working call answers.
 pub enum Status {
     Unfinished,
-    // The score: the live cells of the board.
+    // The score: the live cells of the board that were free.
     Finished(usize),
     Infeasible,
     Refused(Refusal),

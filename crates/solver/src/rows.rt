@@ -4,7 +4,7 @@ ghost use Prim.Native.Nat.{_+_, _<_, _≤_, _^_};
 ghost use lib.ListN.{length};
 ghost use Rattle.rule.specs.Rule.{entryOf};
 ghost use Rattle.life.specs.Rows.{window, becomes, agree};
-ghost use Rattle.solver.specs.Rows.{live, markKept, rowKept, written};
+ghost use Rattle.solver.specs.Rows.{markKept, rowKept, cellWorth, rowWorth, written};
 
 // The number of rows of width w.
 pub fn row_codes(w: usize) -> usize
@@ -44,18 +44,6 @@ pub fn agrees(next: &[u8; 512], w: usize, a: usize, b: usize, c: usize) -> bool
     true
 }
 
-// The live cells of a row.
-pub fn live_cells(w: usize, row: usize) -> usize
-    requires { ⌜ w ≤ 10 ⌝ }
-    ensures { λ r. ⌜ (r ≡ live w row) × (r ≤ w) ⌝ }
-{
-    let mut n = 0;
-    for k in 0..w {
-        n += (row >> (w - (k + 1))) % 2;
-    }
-    n
-}
-
 // Whether a cell keeps its mark.
 fn mark_kept(mark: u8, cell: usize) -> bool
     ensures { λ r. ⌜ r ≡ markKept mark cell ⌝ }
@@ -78,6 +66,29 @@ pub fn row_kept(w: usize, givens: &[u8], at: usize, row: usize) -> bool
         }
     }
     true
+}
+
+// What a cell earns: a live cell counts unless it was given.
+fn cell_worth(mark: u8, cell: usize) -> usize
+    ensures { λ r. ⌜ (r ≡ cellWorth mark cell) × (r ≤ cell) ⌝ }
+{
+    match mark {
+        1 => 0,
+        2 => 0,
+        _ => cell,
+    }
+}
+
+// The worth of a row: its live cells that are free, by the givens that start at a place of the grid.
+pub fn row_worth(w: usize, givens: &[u8], at: usize, row: usize) -> usize
+    requires { ⌜ (w ≤ 10) × (at + w ≤ length (now givens)) ⌝ }
+    ensures { λ r. ⌜ (r ≡ rowWorth w (now (givens .entry)) at row) × (r ≤ w) ⌝ }
+{
+    let mut n = 0;
+    for k in 0..w {
+        n += cell_worth(givens[at + k], (row >> (w - (k + 1))) % 2);
+    }
+    n
 }
 
 // Writes a row's cells into a board from a place on.

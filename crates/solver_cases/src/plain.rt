@@ -82,12 +82,13 @@ pub struct Best {
 // The first best still board that keeps the givens: board order is the order of the boards' numbers.
 pub fn best_board(s: Size, givens: &[u8]) -> Best {
     let end = boards(s.cells);
+    let m = masks_of(givens, 0, s.cells);
     let mut best = 0; // one more than the best score, 0 while there is none
     let mut first = 0;
     for number in 0..end {
-        let v = num::wrapping_add_usize(live(number), 1);
+        let v = num::wrapping_add_usize(score(m, number), 1);
         if best < v {
-            if is_solution(s, givens, number) {
+            if keeps_givens(m, number) && is_still(s.w, s.h, number) {
                 best = v;
                 first = number;
             }
@@ -100,10 +101,6 @@ pub fn best_board(s: Size, givens: &[u8]) -> Best {
     }
 }
 
-fn is_solution(s: Size, givens: &[u8], number: usize) -> bool {
-    keeps_givens(givens, 0, s.cells, number) && is_still(s.w, s.h, number)
-}
-
 // A job's length in units.
 pub fn length(s: Size, best: Best) -> usize {
     num::wrapping_add_usize(s.entries, if best.found { s.h } else { 1 })
@@ -114,37 +111,50 @@ pub fn written(s: Size, best: Best) -> usize {
     if best.found { s.cells } else { 0 }
 }
 
-// The live cells of a row or a board.
-pub fn live(number: usize) -> usize {
-    wide(usize::count_ones(number))
+// The cells of a row or a board that are free, given dead and given live, each as the digits of a number.
+pub struct Masks {
+    free: usize,
+    dead: usize,
+    live: usize,
+}
+
+// Those of so many cells from a place on.
+pub fn masks_of(givens: &[u8], from: usize, cells: usize) -> Masks {
+    Masks {
+        free: marked(givens, from, cells, 0),
+        dead: marked(givens, from, cells, 1),
+        live: marked(givens, from, cells, 2),
+    }
+}
+
+fn marked(givens: &[u8], from: usize, cells: usize, mark: u8) -> usize {
+    let mut number = 0;
+    for k in 0..cells {
+        let p = num::wrapping_add_usize(from, k);
+        let digit = if p < givens.len() {
+            digit_of(givens[p], mark)
+        } else {
+            0
+        };
+        number = num::wrapping_add_usize(number << 1, digit);
+    }
+    number
+}
+
+fn digit_of(given: u8, mark: u8) -> usize {
+    if given == mark { 1 } else { 0 }
+}
+
+// Whether cells, the digits of a number, keep their marks.
+pub fn keeps_givens(m: Masks, number: usize) -> bool {
+    number & m.dead == 0 && number & m.live == m.live
+}
+
+// The live cells that are free.
+pub fn score(m: Masks, number: usize) -> usize {
+    wide(usize::count_ones(number & m.free))
 }
 
 pub fn wide(x: u32) -> usize {
     x as usize
-}
-
-// Whether cells, the digits of a number, keep the marks from a place on; goes from the last cell to the first.
-pub fn keeps_givens(givens: &[u8], from: usize, cells: usize, number: usize) -> bool {
-    let mut rest = number;
-    for k in 0..cells {
-        let p = num::wrapping_add_usize(from, cells - 1 - k);
-        if givens.len() <= p {
-            return false;
-        }
-        if !mark_kept(givens[p], rest % 2) {
-            return false;
-        }
-        rest = rest / 2;
-    }
-    true
-}
-
-fn mark_kept(mark: u8, cell: usize) -> bool {
-    if mark == 1 {
-        return cell == 0;
-    }
-    if mark == 2 {
-        return cell == 1;
-    }
-    true
 }

@@ -1,7 +1,8 @@
-// A unit of a job, and the rule for its numbers, by document 01 and written apart from the library.
+// A unit of a job, and the rule for its numbers, by the documents and written apart from the library.
 use crate::memory;
 use crate::memory::Memory;
 use crate::plain;
+use crate::plain::Masks;
 use crate::sizes;
 use crate::sizes::Size;
 use solver::Checkpoint;
@@ -76,19 +77,22 @@ fn entry_of(s: Size, i: usize, a: usize, b: usize, givens: &[u8], table: &[u16])
     if i == s.h {
         return last_entry(s.w, a, b);
     }
-    best_below(s.w, a, b, num::wrapping_add_usize(i, 1), givens, table).sum
+    let m = plain::masks_of(givens, sizes::times(i, s.w), s.w);
+    best_below(s.w, a, b, num::wrapping_add_usize(i, 1), m, table).sum
 }
 
 // Row k, the first that has none.
 fn choose(s: Size, c: Checkpoint, givens: &[u8], table: &[u16], board: &mut [u8]) -> Checkpoint {
     let before = num::wrapping_sub_usize(c.units, s.entries);
     let k = num::wrapping_add_usize(before, 1);
-    let best = best_below(s.w, c.above, c.last, k, givens, table);
+    let at = sizes::times(before, s.w);
+    let m = plain::masks_of(givens, at, s.w);
+    let best = best_below(s.w, c.above, c.last, k, m, table);
     if best.sum == 65535 {
         return without_row(c, k);
     }
-    write_row(board, sizes::times(before, s.w), s.w, best.row);
-    with_row(c, best.row, k == s.h)
+    write_row(board, at, s.w, best.row);
+    with_row(c, best.row, plain::score(m, best.row), k == s.h)
 }
 
 // No row k: the job ends where it is row 1, and otherwise stands before it.
@@ -103,12 +107,12 @@ fn without_row(c: Checkpoint, k: usize) -> Checkpoint {
     next
 }
 
-fn with_row(c: Checkpoint, row: usize, is_last: bool) -> Checkpoint {
+fn with_row(c: Checkpoint, row: usize, score: usize, is_last: bool) -> Checkpoint {
     let mut next = c;
     next.units = num::wrapping_add_usize(c.units, 1);
     next.above = c.last;
     next.last = row;
-    next.live = num::wrapping_add_usize(c.live, plain::live(row));
+    next.live = num::wrapping_add_usize(c.live, score);
     next.mark = if is_last { 1 } else { 0 };
     next
 }
@@ -121,19 +125,19 @@ fn last_entry(w: usize, a: usize, b: usize) -> usize {
     if plain::agree(w, b, 0, 0) { 0 } else { 65535 }
 }
 
-// The best row below two, and its live cells with its entry, 65,535 for none.
+// The best row below two, and its free live cells with its entry, 65,535 for none.
 struct Below {
     row: usize,
     sum: usize,
 }
 
 // The best row k below a over b.
-fn best_below(w: usize, a: usize, b: usize, k: usize, givens: &[u8], table: &[u16]) -> Below {
+fn best_below(w: usize, a: usize, b: usize, k: usize, m: Masks, table: &[u16]) -> Below {
     let end = sizes::rows(w);
     let mut best = 0; // one more than the best sum, 0 while there is none
     let mut row = 0;
     for c in 0..end {
-        let v = offer(w, a, b, c, k, givens, table);
+        let v = offer(w, a, b, c, k, m, table);
         if best < v {
             best = v;
             row = c;
@@ -146,11 +150,10 @@ fn best_below(w: usize, a: usize, b: usize, k: usize, givens: &[u8], table: &[u1
 }
 
 // One more than the sum of row c, 0 where it cannot be row k below a over b.
-fn offer(w: usize, a: usize, b: usize, c: usize, k: usize, givens: &[u8], table: &[u16]) -> usize {
+fn offer(w: usize, a: usize, b: usize, c: usize, k: usize, m: Masks, table: &[u16]) -> usize {
     let entry = load(table, place(w, k, b, c));
-    let marks = sizes::times(num::wrapping_sub_usize(k, 1), w);
-    if entry <= 600 && plain::keeps_givens(givens, marks, w, c) && plain::agree(w, a, b, c) {
-        return num::wrapping_add_usize(num::wrapping_add_usize(plain::live(c), entry), 1);
+    if entry <= 600 && plain::keeps_givens(m, c) && plain::agree(w, a, b, c) {
+        return num::wrapping_add_usize(num::wrapping_add_usize(plain::score(m, c), entry), 1);
     }
     0
 }

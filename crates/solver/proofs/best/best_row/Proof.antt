@@ -85,12 +85,12 @@ agreed c =
     rw e at (c .before .loop .inv .1)
 
 -- the sum of the turn is what the row offers
-sum : (c : tie.After-live-cells Inv-loop μ-loop Inv-rows μ-rows) →
+sum : (c : tie.After-row-worth Inv-loop μ-loop Inv-rows μ-rows) →
     let t = c .before .before .before .before .before .before .before in
     let g = t .before .before .before .before .before .args in
-    Offer t (tried t) ≡ some (c .live-cells .result + getD (g .table .now) (g .first + tried t) 0)
+    Offer t (tried t) ≡ some (c .row-worth .result + getD (g .table .now) (g .first + tried t) 0)
 sum c =
-    rw (c .live-cells .ensures .0)
+    rw (c .row-worth .ensures .0)
     (offer-sum _ _ _ _ _ _ _ _ (agreed (c .before .before .before .before .before))
     (sym (c .before .before .before .before .row-kept .ensures) ∙ not-false _ (c .before .before .before .if4 .left)) (c .before .if5 .left))
 
@@ -180,8 +180,8 @@ rows-less-3 c = search needs
 rows-again-3 : tie.Need-rows-again-3 Inv-loop μ-loop Inv-rows μ-rows
 rows-again-3 c = pass (c .before .before .before .before .before .before) (offer-absent _ _ _ _ _ _ _ _ (c .if5 .taken))
 
-live-cells-requires : tie.Need-live-cells-requires Inv-loop μ-loop Inv-rows μ-rows
-live-cells-requires c κs = search needs
+row-worth-requires : tie.Need-row-worth-requires Inv-loop μ-loop Inv-rows μ-rows
+row-worth-requires c κs = search needs
 
 add-v : tie.Need-add-v Inv-loop μ-loop Inv-rows μ-rows
 add-v c = omega arith
@@ -241,7 +241,7 @@ best-row-spec =
     cast-e
     rows-less-3
     rows-again-3
-    live-cells-requires
+    row-worth-requires
     add-v
     add-v-2
     rows-less-4

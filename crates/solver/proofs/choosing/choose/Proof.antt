@@ -27,12 +27,12 @@ beyond : (d : tie.After-table-size) → let j = d .before .before .before .befor
 beyond d = ap (λ (x : ℕ). d .before .before .before .before .args .job .units - x) (d .table-size .ensures .0)
 
 -- its cells are within the givens and the board
-cells-room : (n : tie.After-row-codes) → let j = n .before .before .before .before .before .before .args .job in
-    (j .units - n .before .before .table-size .result) * j .width + j .width ≤ j .width * j .height
-cells-room n = row-room _ _ _ (inside (n .before .before))
+cells-room : (d : tie.After-table-size) → let j = d .before .before .before .before .args .job in
+    (j .units - d .table-size .result) * j .width + j .width ≤ j .width * j .height
+cells-room d = row-room _ _ _ (inside d)
 
-cells-le : (n : tie.After-row-codes) → let j = n .before .before .before .before .before .before .args .job in j .width * j .height ≤ 600
-cells-le n = let p = n .before .before .before .before .before .before .pre .1 in mul-le-mul (p .narrow) (p .low)
+cells-le : (d : tie.After-table-size) → let j = d .before .before .before .before .args .job in j .width * j .height ≤ 600
+cells-le d = let p = d .before .before .before .before .pre .1 in mul-le-mul (p .narrow) (p .low)
 
 -- and its entries within the table
 first-room : (n : tie.After-row-codes) → let g = n .before .before .before .before .before .before .args in
@@ -60,6 +60,9 @@ table-size-requires c κs = let p = c .before .before .before .pre .1 in (p .nar
 sub-r : tie.Need-sub-r
 sub-r c = let p = c .before .before .before .before .pre .1 in omega (arith, p .from, c .table-size .ensures .0)
 
+mul-at : tie.Need-mul-at
+mul-at c = omega (arith, cells-room c, cells-le c)
+
 layer-size-requires : tie.Need-layer-size-requires
 layer-size-requires c κs = c .before .before .before .before .pre .1 .narrow
 
@@ -75,13 +78,10 @@ mul-first-2 c = omega (arith, first-room c, entries-le c)
 add-first : tie.Need-add-first
 add-first c = omega (arith, first-room c, entries-le c)
 
-mul-best-row : tie.Need-mul-best-row
-mul-best-row c = omega (arith, cells-room c, cells-le c)
-
 best-row-requires : tie.Need-best-row-requires
 best-row-requires c κs =
     let p = c .before .before .before .before .before .before .pre .1 in
-    (p .narrow, p .over, p .below, omega (arith, cells-room c, p .marks), omega (arith, first-room c, p .entries))
+    (p .narrow, p .over, p .below, omega (arith, cells-room (c .before .before), p .marks), omega (arith, first-room c, p .entries))
 
 enum-told : tie.Need-enum-told
 enum-told c = search needs
@@ -91,32 +91,32 @@ returns c =
     let b = c .before .before .before in
     chosen-spoiled _ _ _ _ _ _ _ _ (beyond (b .before .before .before)) (c .if1 .taken) (sym (choice b) ∙ ap choiceOf (c .before .enum-told .given .1))
 
-add-t24 : tie.Need-add-t24
-add-t24 c = search needs
+add-t25 : tie.Need-add-t25
+add-t25 c = search needs
 
 enum-known-c : tie.Need-enum-known-c
 enum-known-c c = search needs
-
-mul-write-row : tie.Need-mul-write-row
-mul-write-row c = let n = c .before .before .before .before .before in omega (arith, cells-room n, cells-le n)
 
 write-row-requires : tie.Need-write-row-requires
 write-row-requires c κs =
     let n = c .before .before .before .before .before in
     let p = n .before .before .before .before .before .before .pre .1 in
-    (p .narrow, omega (arith, cells-room n, p .cells))
+    (p .narrow, omega (arith, cells-room (n .before .before), p .cells))
 
-live-cells-requires : tie.Need-live-cells-requires
-live-cells-requires c κs = c .before .before .before .before .before .before .before .before .before .before .before .before .before .before .pre .1 .narrow
+row-worth-requires : tie.Need-row-worth-requires
+row-worth-requires c κs =
+    let n = c .before .before .before .before .before .before .before .before in
+    let p = n .before .before .before .before .before .before .pre .1 in
+    (p .narrow, omega (arith, cells-room (n .before .before), p .marks))
 
 add-n : tie.Need-add-n
-add-n c = let p = c .before .before .before .before .before .before .before .before .before .before .before .before .before .before .before .pre .1 in omega (arith, p .few, p .narrow, c .live-cells .ensures .1)
+add-n c = search needs
 
 add-if2 : tie.Need-add-if2
-add-if2 c = omega (arith, few (c .before .before .before .before .before .before .before .before .before .before .before))
+add-if2 c = search needs
 
-add-t30 : tie.Need-add-t30
-add-t30 c = let p = c .before .before .before .before .before .before .before .before .before .before .before .before .before .before .before .before .pre .1 in omega (arith, p .until, p .low, entries-le (c .before .before .before .before .before .before .before .before .before .before))
+add-t31 : tie.Need-add-t31
+add-t31 c = search needs
 
 returns-2 : tie.Need-returns-2
 returns-2 c =
@@ -129,7 +129,7 @@ same-length c = search needs
 returns-3 : tie.Need-returns-3
 returns-3 c =
     let b = c .before .before .before .before .before .before .before .before .before in
-    let l = c .before .live-cells .ensures .0 in
+    let l = c .before .row-worth .ensures .0 in
     rw (c .before .before .before .before .write-row .ensures)
     (chosen-row _ _ _ _ _ _ _ _ (beyond (b .before .before .before)) _ _ _ (sym (choice b) ∙ ap choiceOf (c .before .before .before .before .before .before .before .c .given .1))
     (⊎-elim (λ x. choosing-on _ _ _ _ _ _ _ (x .0 .taken) l _ (x .1)) (λ x. choosing-over _ _ _ _ _ _ _ (x .0 .left) l _ (x .1)) (c .if2 .came)))
@@ -140,23 +140,22 @@ choose-spec =
     (tie.spec
     table-size-requires
     sub-r
+    mul-at
     layer-size-requires
     mul-first
     row-codes-requires
     mul-first-2
     add-first
-    mul-best-row
     best-row-requires
     enum-told
     returns
-    add-t24
+    add-t25
     enum-known-c
-    mul-write-row
     write-row-requires
-    live-cells-requires
+    row-worth-requires
     add-n
     add-if2
-    add-t30
+    add-t31
     returns-2
     same-length
     returns-3)

@@ -6,25 +6,31 @@ use Rattle.solver_cases.proofs.plain.best_board.Statement.{statement}
 use Rattle.solver_cases.proofs.plain.best_board.Tie as tie
 
 abbrev Inv-loop : tie.InvT-loop
-Inv-loop s givens end best₀ first₀ number₀ best first number = number ≤ end
+Inv-loop s givens end m best₀ first₀ number₀ best first number = number ≤ end
 
 abbrev μ-loop : tie.MeasureT-loop
-μ-loop s givens end best₀ first₀ number₀ best first number = end - number
+μ-loop s givens end m best₀ first₀ number₀ best first number = end - number
 
 boards-requires : tie.Need-boards-requires Inv-loop μ-loop
 boards-requires c κs = search needs
 
+masks-of-requires : tie.Need-masks-of-requires Inv-loop μ-loop
+masks-of-requires c κs = search needs
+
 loop-holds : tie.Need-loop-holds Inv-loop μ-loop
 loop-holds c = search needs
 
-live-requires : tie.Need-live-requires Inv-loop μ-loop
-live-requires c κs = search needs
+score-requires : tie.Need-score-requires Inv-loop μ-loop
+score-requires c κs = search needs
 
 wrapping-add-usize-requires : tie.Need-wrapping-add-usize-requires Inv-loop μ-loop
 wrapping-add-usize-requires c κs = search needs
 
-is-solution-requires : tie.Need-is-solution-requires Inv-loop μ-loop
-is-solution-requires c κs = search needs
+keeps-givens-requires : tie.Need-keeps-givens-requires Inv-loop μ-loop
+keeps-givens-requires c κs = search needs
+
+is-still-requires : tie.Need-is-still-requires Inv-loop μ-loop
+is-still-requires c κs = search needs
 
 add-number : tie.Need-add-number Inv-loop μ-loop
 add-number c = search needs
@@ -48,10 +54,12 @@ best-board-spec =
     Inv-loop
     μ-loop
     boards-requires
+    masks-of-requires
     loop-holds
-    live-requires
+    score-requires
     wrapping-add-usize-requires
-    is-solution-requires
+    keeps-givens-requires
+    is-still-requires
     add-number
     loop-less
     loop-again

@@ -6,10 +6,10 @@ use Rattle.solver_cases.proofs.unit.best_below.Statement.{statement}
 use Rattle.solver_cases.proofs.unit.best_below.Tie as tie
 
 abbrev Inv-loop : tie.InvT-loop
-Inv-loop w a b k givens table end best₀ row₀ c₀ best row c = c ≤ end
+Inv-loop w a b k m table end best₀ row₀ c₀ best row c = c ≤ end
 
 abbrev μ-loop : tie.MeasureT-loop
-μ-loop w a b k givens table end best₀ row₀ c₀ best row c = end - c
+μ-loop w a b k m table end best₀ row₀ c₀ best row c = end - c
 
 rows-requires : tie.Need-rows-requires Inv-loop μ-loop
 rows-requires c κs = search needs
