@@ -37,16 +37,21 @@ pub fn open(w: usize, h: usize, givens: &[u8], n: usize) -> Opened {
     solver::open(w, h, &givens[..g])
 }
 
-// A grid's job; one of no size where opening is refused, which no working call takes.
+// A grid's job, or none where opening is refused.
 pub fn opened(s: Size, givens: &[u8]) -> Job {
     match open(s.w, s.h, givens, s.cells) {
         Opened::Ready(job) => job,
-        Opened::Refused(_) => Job {
-            width: 0,
-            height: 0,
-            units: 0,
-            stage: Stage::Filling,
-        },
+        Opened::Refused(_) => no_job(),
+    }
+}
+
+// A job of no size, which no call takes.
+fn no_job() -> Job {
+    Job {
+        width: 0,
+        height: 0,
+        units: 0,
+        stage: Stage::Filling,
     }
 }
 
@@ -90,29 +95,29 @@ pub fn least(a: usize, b: usize) -> usize
     if a < b { a } else { b }
 }
 
-// Whether a job that is paused and resumed is the same in every field.
-pub fn resumes(job: Job) -> bool {
+// The job resumed from the numbers that pausing gives, or none where either is refused.
+pub fn resumed(job: Job) -> Job {
     let Paused::Numbers(numbers) = job.pause() else {
-        return false;
+        return no_job();
     };
     let Resumed::Ready(next) = numbers.resume() else {
-        return false;
+        return no_job();
     };
-    same_job(job, next)
+    next
 }
 
 // The seven numbers of a job.
 pub fn numbers_of(job: Job) -> Checkpoint {
     let stage = job.stage;
     match stage {
-        Stage::Filling => running(job, 0, 0, 0, 0),
-        Stage::Choosing { above, last, live } => running(job, above, last, live, 0),
-        Stage::Finished { above, last, score } => running(job, above, last, score, 1),
-        Stage::Infeasible => running(job, 0, 0, 0, 2),
+        Stage::Filling => with_stage(job, 0, 0, 0, 0),
+        Stage::Choosing { above, last, live } => with_stage(job, above, last, live, 0),
+        Stage::Finished { above, last, score } => with_stage(job, above, last, score, 1),
+        Stage::Infeasible => with_stage(job, 0, 0, 0, 2),
     }
 }
 
-fn running(job: Job, above: usize, last: usize, live: usize, mark: usize) -> Checkpoint {
+fn with_stage(job: Job, above: usize, last: usize, live: usize, mark: usize) -> Checkpoint {
     Checkpoint {
         width: job.width,
         height: job.height,

@@ -113,7 +113,7 @@ fn differs(what: &[u8], t: Turn) -> Turn {
 // One turn: a pause and a resumption, perhaps a call that must be refused, and a working call.
 fn next_turn(s: Size, seed: usize, best: Best, givens: [u8; memory::CELLS], t: Turn) -> Turn {
     let job = t.job;
-    if !calls::resumes(job) {
+    if !calls::same_job(job, calls::resumed(job)) {
         return differs(b"a job resumed", t);
     }
     let kind = random::below(16, seed, num::wrapping_add_usize(t.calls, 300000));
@@ -131,7 +131,8 @@ fn next_turn(s: Size, seed: usize, best: Best, givens: [u8; memory::CELLS], t: T
 
 fn work_turn(s: Size, seed: usize, best: Best, givens: [u8; memory::CELLS], t: Turn) -> Turn {
     let allowance = random::allowance(s.entries, seed, t.calls);
-    let job = t.job;
+    let paused = t.job;
+    let job = calls::resumed(paused);
     let m = t.memory;
     let r = calls::work(job, calls::exact(s), &givens, m, allowance);
     let status = r.status;
