@@ -12,10 +12,11 @@ use Rattle.life.specs.Rows.{cellOf, becomes, stepsTo}
 use Rattle.life.specs.Calls.{nextAt, keepsAt, judged, judgeRule}
 use Rattle.plaintext.specs.Lines.{linesOf}
 use Rattle.plaintext.specs.Reading as Reading
-use Rattle.solver.specs.Rows.{markKept, rowKept, cellWorth, rowWorth, written}
-use Rattle.solver.specs.ScoreTable.{placeOf}
-use Rattle.solver.specs.Jobs.{tableSize, unitsFit, rowsChosen, rowsFit, checkpointFits, jobFits, workCheck}
-use Rattle.solver.specs.Units.{unitPlace, unitEntry, rowChoice, unitOf}
+use Rattle.score_table.specs.Rows.{markKept, rowKept, cellWorth, rowWorth}
+use Rattle.solver.specs.Rows.{written}
+use Rattle.score_table.specs.ScoreTable.{placeOf, tableSize, unitPlace, unitEntry, rowChoice}
+use Rattle.solver.specs.Jobs.{unitsFit, rowsChosen, rowsFit, checkpointFits, jobFits, workCheck}
+use Rattle.solver.specs.Units.{unitOf}
 use Rattle.solver.specs.Calls.{worksOn, workOf}
 use Rattle.known.specs.Known.{solved, Known}
 

@@ -9,7 +9,8 @@ use Rattle.rule.specs.Rule.{conway}
 use Rattle.life.specs.Calls.{judgeRule, still, changes}
 use Rattle.plaintext.specs.Letters.{LF, bigO}
 use Rattle.plaintext.specs.Reading.{readRule}
-use Rattle.solver.specs.Jobs.{tableSize, start, finished, infeasible}
+use Rattle.score_table.specs.ScoreTable.{tableSize}
+use Rattle.solver.specs.Jobs.{start, finished, infeasible}
 use Rattle.solver.specs.Calls.{workOf}
 
 -- what a whole job comes to: its answer, the units done, and the board

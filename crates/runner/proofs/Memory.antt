@@ -9,7 +9,8 @@ use lib.ListN.{length}
 use Rattle.board.specs.Answers.{passed}
 use Rattle.board.specs.Boards.{Bytes, Givens}
 use Rattle.board.proofs.Checks.{size-passes, marks-pass}
-use Rattle.solver.specs.Jobs.{tableSize, start, openRule, workCheck}
+use Rattle.score_table.specs.ScoreTable.{tableSize}
+use Rattle.solver.specs.Jobs.{start, openRule, workCheck}
 use Rattle.solver.specs.Units.{State, Step, next, spoiled, unitOf}
 use Rattle.solver.specs.Calls.{Opens, onStep, worksOn}
 use Rattle.solver.specs.Inner.{Lent}

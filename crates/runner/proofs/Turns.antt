@@ -11,7 +11,8 @@ use Rattle.board.specs.Answers.{Answer, gives, refuses, passed}
 use Rattle.board.specs.Boards.{Givens}
 use Rattle.board.proofs.Answers.{refuses-none}
 use Rattle.solver.specs.Grid.{score}
-use Rattle.solver.specs.Jobs.{tableSize, boardLength, noneLength, start, workCheck, unfinished, finished, infeasible}
+use Rattle.score_table.specs.ScoreTable.{tableSize}
+use Rattle.solver.specs.Jobs.{boardLength, noneLength, start, workCheck, unfinished, finished, infeasible}
 use Rattle.solver.specs.Units.{State}
 use Rattle.solver.specs.Calls.{Result, workOf}
 use Rattle.solver.specs.Inner.{lentState}

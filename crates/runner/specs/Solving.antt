@@ -9,7 +9,8 @@ use Rattle.board.specs.Answers.{Answer, refuses, passed, refusalSays, _then_, r
 use Rattle.board.specs.Boards.{Givens}
 use Rattle.board.specs.Checks.{sizeCheck, givensCheck, lengthCheck}
 use Rattle.solver.specs.Grid.{Solution, Optimal, score}
-use Rattle.solver.specs.Jobs.{tableSize, start, finished, infeasible}
+use Rattle.score_table.specs.ScoreTable.{tableSize}
+use Rattle.solver.specs.Jobs.{start, finished, infeasible}
 use Rattle.solver.specs.Demand.{Filled}
 use Rattle.solver.specs.declared.Job.{Job}
 use Rattle.runner.specs.declared.Solved.{Solved}

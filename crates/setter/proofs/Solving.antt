@@ -13,7 +13,8 @@ use Rattle.board.specs.declared.Refusal.{Refusal}
 use Rattle.board.specs.Checks.{sizeCheck, givensCheck, lengthCheck}
 use Rattle.board.proofs.Answers.{refuses-none, then-gives, unless-gives}
 use Rattle.plaintext.specs.Writing.{textLength, textOver}
-use Rattle.solver.specs.Jobs.{tableSize, finished, infeasible}
+use Rattle.score_table.specs.ScoreTable.{tableSize}
+use Rattle.solver.specs.Jobs.{finished, infeasible}
 use Rattle.runner.specs.Solving.{memoryCheck, solveCheck, solvedSays, Ends, best, none, Comes, Solves}
 use Rattle.runner.specs.declared.Solved as Solved
 use Rattle.setter.specs.Texts.{givenOf, SolvesCells}

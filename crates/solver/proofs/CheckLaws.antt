@@ -14,7 +14,8 @@ use Rattle.board.specs.Answers.{Answer, gives, refuses, _then_, refuseUnless, r
 use Rattle.board.specs.Checks.{givensCheck, lengthCheck, bytesCheck, atMost}
 use Rattle.board.proofs.Answers.{then-gives, unless-gives}
 use Rattle.board.proofs.Checks.{marks-of}
-use Rattle.solver.specs.Jobs.{tableSize, jobFits, workCheck}
+use Rattle.score_table.specs.ScoreTable.{tableSize}
+use Rattle.solver.specs.Jobs.{jobFits, workCheck}
 use Rattle.solver.specs.Inner.{Lent}
 use Rattle.solver.specs.declared.Job.{Job}
 

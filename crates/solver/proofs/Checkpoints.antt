@@ -3,15 +3,19 @@
 use mathlib.Core.Path.{_≡_, refl}
 use mathlib.Core.Bool.{Bool, true, false, _&&_}
 use mathlib.Core.List.{List}
-use Prim.Native.Nat.{ℕ, _*_, _-_, _≤_}
+use Prim.Native.Nat.{ℕ, _+_, _*_, _-_, _/_, _^_, _≤_, _<_}
+use native.Mathlib.Nat.{div-eq-of-lt, lt-div-mul-add}
 use native.Mathlib.Omega.{arith}
+use native.Mathlib.Decide.{decLt}
 use borrow.Author.Tests.{ltb-true}
 use lib.Dec.{ltb}
+use lib.Pow.{pow-pos}
 use Rattle.board.specs.Answers.{refuses, refuseUnless, _then_}
 use Rattle.board.specs.Boards.{among, Sized}
 use Rattle.board.specs.Checks.{sizeCheck}
 use Rattle.board.proofs.Tests.{among-yes}
-use Rattle.solver.specs.Jobs.{tableSize, unitsFit, rowsChosen, checkpointFits, stageOf, jobOf, jobSays, checkpointSays}
+use Rattle.score_table.specs.ScoreTable.{tableSize}
+use Rattle.solver.specs.Jobs.{unitsFit, rowsChosen, checkpointFits, stageOf, jobOf, jobSays, checkpointSays}
 use Rattle.solver.specs.declared.Checkpoint.{Checkpoint}
 use Rattle.solver.proofs.Fits.{RowsFit, UnitsFit, runs, ends, fails, units-at, numbers-at}
 
@@ -29,6 +33,13 @@ size-misfits w h {n} {vs} e = go (among 10 w) (among 60 h) e
     go false t q = refl
 
 -- ---- the rows
+-- a shift by the width leaves nothing of a row, and something of any greater number
+pub shift-none : (x w : ℕ) → x / 2 ^ w ≡ 0 → x < 2 ^ w
+shift-none x w e = let l : x < x / 2 ^ w * 2 ^ w + 2 ^ w = lt-div-mul-add (pow-pos w) in omega (arith, rw e at l)
+
+pub shift-some : (x w : ℕ) → (x / 2 ^ w ≡ 0 → ⊥) → 2 ^ w ≤ x
+shift-some x w n = elim (decLt x (2 ^ w)) [ yes l ↦ absurd (n (div-eq-of-lt l)) | no l ↦ omega arith ]
+
 -- at most h rows are chosen where the units fit
 pub chosen-le : (w h units mark : ℕ) → unitsFit w h units mark ≡ true → rowsChosen w h units mark ≤ h
 unfolding rowsChosen

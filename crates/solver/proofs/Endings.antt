@@ -23,11 +23,12 @@ use Rattle.life.specs.Rows.{rowOf, digitIn, agree, RowsAgree}
 use Rattle.life.proofs.OnPlane.{place-within}
 use Rattle.life.proofs.Theorems.{rows-life}
 use Rattle.solver.specs.Grid.{KeepsGivens, Solution, score}
-use Rattle.solver.specs.Rows.{rowWorth, markKept, rowKept}
-use Rattle.solver.specs.ScoreTable.{rules, kindOf}
+use Rattle.score_table.specs.Rows.{rowWorth, markKept, rowKept}
+use Rattle.score_table.specs.ScoreTable.{rules, kindOf}
 use Rattle.solver.specs.Theorems.{nextRows, allRows}
 use Rattle.solver.proofs.Fits.{and-true}
-use Rattle.solver.proofs.RowLaws.{MarkIs, isDead, isLive, isFree, mark-is, row-none, row-past, row-lt, row-digit, row-worth-le, Place, place, score-more, score-none}
+use Rattle.score_table.proofs.Marks.{MarkIs, isDead, isLive, isFree, mark-is, row-worth-le}
+use Rattle.solver.proofs.RowLaws.{row-none, row-past, row-lt, row-digit, Place, place, score-more, score-none}
 
 -- the kind of job, and where a board may end
 abbrev pub kind : ℕ → ℕ → List ℕ → Kind ℕ

@@ -13,7 +13,8 @@ use Rattle.board.specs.Answers.{Answer, gives, refuses, refuseUnless}
 use Rattle.board.specs.Boards.{among, Sized}
 use Rattle.board.proofs.Answers.{refuses-none, then-gives, unless-gives}
 use Rattle.board.proofs.Tests.{and-left, and-right, among-yes, among-in}
-use Rattle.solver.specs.Jobs.{tableSize, unitsFit, rowsChosen, rowsFit, checkpointFits, numbersOf, checkpointSays, jobSays, stageFits, jobFits, stageOf, jobOf, pauseRule, resumeRule, pausedSays, resumedSays}
+use Rattle.score_table.specs.ScoreTable.{tableSize}
+use Rattle.solver.specs.Jobs.{unitsFit, rowsChosen, rowsFit, checkpointFits, numbersOf, checkpointSays, jobSays, stageFits, jobFits, stageOf, jobOf, pauseRule, resumeRule, pausedSays, resumedSays}
 use Rattle.solver.specs.Calls.{RoundTrip}
 use Rattle.solver.specs.Demand.{Pausable}
 use Rattle.solver.specs.declared.Stage.{Stage}

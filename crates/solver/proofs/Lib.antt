@@ -1,17 +1,13 @@
 -- The laws of this crate that belong to no one function, and its theorems. Each file builds on those above it.
-pub mod Powers
 pub mod Fits
 pub mod Checkpoints
 pub mod Writing
 pub mod RowLaws
-pub mod Columns
-pub mod Skipping
-pub mod Scanning
 pub mod Endings
 pub mod Optimum
 pub mod Theorems
 pub mod TableLaws
-pub mod Entries
+pub mod Agreement
 pub mod Machine
 pub mod UnitLaws
 pub mod WorkLaws

@@ -15,7 +15,8 @@ use Rattle.board.proofs.Answers.{refuses-none}
 use Rattle.elimination.specs.Machine.{advance, Lasts}
 use Rattle.elimination.specs.Job.{ended, done, endMark}
 use Rattle.elimination.proofs.Machine.{advance-suc, after-units}
-use Rattle.solver.specs.Jobs.{tableSize, jobFits, checkpointFits, checkpointSays, jobOf, pauseRule, resumeRule, workCheck, stageSays, unfinished}
+use Rattle.score_table.specs.ScoreTable.{tableSize}
+use Rattle.solver.specs.Jobs.{jobFits, checkpointFits, checkpointSays, jobOf, pauseRule, resumeRule, workCheck, stageSays, unfinished}
 use Rattle.solver.specs.Units.{State, Step, next, spoiled, unitOf}
 use Rattle.solver.specs.Calls.{Result, onStep, worksOn, workBy, workOf}
 use Rattle.solver.specs.Demand.{Call, work, pause, resume, afterWork, afterResume, afterCall, run, Each, Fair, counted, allowed, summed, WorkAnswers, ResumeAnswers, Answers}

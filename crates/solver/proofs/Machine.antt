@@ -22,15 +22,19 @@ use Rattle.elimination.specs.Job as Elimination
 use Rattle.elimination.specs.FillThenChoose.{plan, fillThenChoose}
 use Rattle.elimination.proofs.Job.{unit-row}
 use Rattle.elimination.proofs.FillThenChoose.{plan-fill, plan-row}
-use Rattle.solver.specs.Rows.{rowWorth, written}
-use Rattle.solver.specs.Jobs.{tableSize, aboveOf, lastOf, liveOf, jobFits}
-use Rattle.solver.specs.Units.{State, Step, next, spoiled, unitPlace, unitEntry, rowChoice, chosenTo, chooseStep, unitOf}
+use Rattle.rule.specs.Rule.{conway}
+use Rattle.score_table.specs.Rows.{rowWorth}
+use Rattle.solver.specs.Rows.{written}
+use Rattle.score_table.specs.ScoreTable.{tableSize, unitPlace, unitEntry, rowChoice}
+use Rattle.solver.specs.Jobs.{aboveOf, lastOf, liveOf, jobFits}
+use Rattle.solver.specs.Units.{State, Step, next, spoiled, chosenTo, chooseStep, unitOf}
 use Rattle.solver.specs.declared.Stage.{Stage}
 use Rattle.solver.proofs.Fits.{RowsFit, Choosing, Fits, jobAt, fits-of}
-use Rattle.solver.proofs.RowLaws.{row-worth-le}
+use Rattle.score_table.proofs.Marks.{row-worth-le}
 use Rattle.solver.proofs.Endings.{kind}
 use Rattle.solver.proofs.Optimum.{putRow}
-use Rattle.solver.proofs.TableLaws.{table-four, place-same, entry-same, choice-same, RowBelow, choice-lt}
+use Rattle.score_table.proofs.Places.{table-four, place-same}
+use Rattle.solver.proofs.TableLaws.{entry-same, choice-same, RowBelow, choice-lt}
 
 -- ---- the machine
 abbrev pub markIn : Stage → Mark
@@ -93,7 +97,7 @@ module _ {w h : ℕ} (z : Sized w h) (g : List ℕ) where
   fill-law u t β l =
       let lq : u < h * (2 ^ w * 2 ^ w) = rw (table-four w h) at l in (
         record { wide = refl; tall = refl; stage = fill-fits u l (ltb (u + 1) (tableSize w h)) refl },
-        fill-view (u + 1) (set t (unitPlace w h u) (unitEntry w h g t u)) β (ltb (u + 1) (tableSize w h))
+        fill-view (u + 1) (set t (unitPlace w h u) (unitEntry conway w h g t u)) β (ltb (u + 1) (tableSize w h))
             ∙ rw (plan-fill h (2 ^ w * 2 ^ w) u lq, add-one u, entry-same w h g t u, place-same w h u),
       )
 
@@ -139,7 +143,7 @@ module _ {w h : ℕ} (z : Sized w h) (g : List ℕ) where
       here = at w h u (Stage.Choosing above last soFar) t β
 
       -- the machine's unit, where a row is to be chosen
-      machine-row : machine w h g .unit (view here) ≡ takeRow (setup w h g) r (view here) (rowChoice w h g t r above last)
+      machine-row : machine w h g .unit (view here) ≡ takeRow (setup w h g) r (view here) (rowChoice conway w h g t r above last)
       machine-row =
           let e : u ≡ h * (2 ^ w * 2 ^ w) + r = omega (arith, F .from, table-four w h) in
           let p : plan h (2 ^ w * 2 ^ w) u ≡ row r (r * (2 ^ w * 2 ^ w)) = ap (plan h (2 ^ w * 2 ^ w)) e ∙ plan-row h (2 ^ w * 2 ^ w) r in
@@ -163,7 +167,7 @@ module _ {w h : ℕ} (z : Sized w h) (g : List ℕ) where
 
       row-law : Steps w h g (unitOf g here) here
       unfolding unitOf
-      row-law = choose-law r refl (rowChoice w h g t r above last) (choice-lt z g t r above last) machine-row
+      row-law = choose-law r refl (rowChoice conway w h g t r above last) (choice-lt z g t r above last) machine-row
 
   -- ---- any unit of a job that fits
   at-law : (u : ℕ) (s : Stage) (t β : List ℕ) → Fits w h u s → Steps w h g (unitOf g (at w h u s t β)) (at w h u s t β)

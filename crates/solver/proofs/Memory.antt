@@ -22,7 +22,8 @@ use Rattle.solver.specs.Demand.{Filled}
 use Rattle.solver.proofs.Writing.{written-length}
 use Rattle.solver.proofs.Endings.{kind}
 use Rattle.solver.proofs.Optimum.{putRow, put-before, put-after}
-use Rattle.solver.proofs.TableLaws.{place-same, right-same}
+use Rattle.score_table.proofs.Places.{place-same}
+use Rattle.solver.proofs.TableLaws.{right-same}
 use Rattle.solver.proofs.Machine.{setup, machine}
 
 -- a state of row elimination's machine

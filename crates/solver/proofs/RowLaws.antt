@@ -22,34 +22,7 @@ use Rattle.life.specs.Rows.{rowNumber, rowOf, digitIn, cellOf}
 use Rattle.life.proofs.OnPlane.{on-board, state-small}
 use Rattle.life.proofs.Rows.{row-cells}
 use Rattle.solver.specs.Grid.{score}
-use Rattle.solver.specs.Rows.{cellWorth, rowWorth}
-
--- ---- marks
-pub data MarkIs (mark : ℕ) : Type 0 where
-  isDead : mark ≡ 1 → MarkIs mark
-  isLive : mark ≡ 2 → MarkIs mark
-  isFree : (mark ≡ 1 → ⊥) → (mark ≡ 2 → ⊥) → MarkIs mark
-
-pub mark-is : (mark : ℕ) → MarkIs mark
-mark-is mark = go (eqb mark 1) refl (eqb mark 2) refl
-  where
-    go : (s : Bool) → eqb mark 1 ≡ s → (t : Bool) → eqb mark 2 ≡ t → MarkIs mark
-    go true e t f = isDead (eqb-true mark 1 e)
-    go false e true f = isLive (eqb-true mark 2 f)
-    go false e false f = isFree (eqb-false mark 1 e) (eqb-false mark 2 f)
-
--- a given cell earns nothing, a free one what it is
-pub worth-dead : (mark cell : ℕ) → mark ≡ 1 → cellWorth mark cell ≡ 0
-unfolding cellWorth
-worth-dead mark cell e = rw (eq-eqb mark 1 e)
-
-pub worth-live : (mark cell : ℕ) → mark ≡ 2 → cellWorth mark cell ≡ 0
-unfolding cellWorth
-worth-live mark cell e = rw (ne-eqb mark 1 (omega arith), eq-eqb mark 2 e)
-
-pub worth-free : (mark cell : ℕ) → (mark ≡ 1 → ⊥) → (mark ≡ 2 → ⊥) → cellWorth mark cell ≡ cell
-unfolding cellWorth
-worth-free mark cell p q = rw (ne-eqb mark 1 p, ne-eqb mark 2 q)
+use Rattle.score_table.specs.Rows.{cellWorth, rowWorth}
 
 -- ---- a row's number
 -- equal cells read as equal numbers
@@ -117,19 +90,6 @@ module _ {w h : ℕ} {board : List ℕ} (b : Board w h board) where
 pub score-none : (w : ℕ) (g board : List ℕ) → score w 0 g board ≡ 0
 unfolding score
 score-none w g board = let e : w * 0 ≡ 0 = omega arith in rw e (total-none (λ p. cellWorth (getD g p 0) (getD board p 0)))
-
-cell-worth-le : (mark cell : ℕ) → cellWorth mark cell ≤ cell
-cell-worth-le mark cell = go (mark-is mark)
-  where
-    go : MarkIs mark → cellWorth mark cell ≤ cell
-    go (isDead e) = omega (arith, worth-dead mark cell e)
-    go (isLive e) = omega (arith, worth-live mark cell e)
-    go (isFree p q) = omega (arith, worth-free mark cell p q)
-
-pub row-worth-le : (w : ℕ) (g : List ℕ) (at c : ℕ) → rowWorth w g at c ≤ w
-unfolding rowWorth
-row-worth-le w g at c =
-    omega (arith, total-le (λ k. cellWorth (getD g (at + k) 0) (digitIn w c (k + 1))) 1 (λ k. omega (arith, cell-worth-le (getD g (at + k) 0) (digitIn w c (k + 1)))) w)
 
 -- ---- a board is its rows
 -- a place of a board is a column of one of its rows, both counted from 0

@@ -25,16 +25,17 @@ use Rattle.elimination.proofs.Numbers.{lt-or-ge}
 use Rattle.elimination.proofs.Machine.{advance-zero, after-units}
 use Rattle.elimination.proofs.FillThenChoose.{schedule-lengths}
 use Rattle.solver.specs.Grid.{score}
-use Rattle.solver.specs.Jobs.{tableSize, boardLength, noneLength, liveOf, stageSays}
+use Rattle.score_table.specs.ScoreTable.{tableSize}
+use Rattle.solver.specs.Jobs.{boardLength, noneLength, liveOf, stageSays}
 use Rattle.solver.specs.Jobs as Jobs
 use Rattle.solver.specs.Units.{State}
 use Rattle.solver.specs.Demand.{Call, run, summed, Each, Fair, Written, chosenIn, chosenRows, idleUnits, Progress, Served}
 use Rattle.solver.specs.declared.Stage.{Stage}
-use Rattle.solver.proofs.Powers.{four-two}
+use Rattle.score_table.proofs.Powers.{four-two}
 use Rattle.solver.proofs.Fits.{Fits, pausable}
 use Rattle.solver.proofs.Endings.{kind}
 use Rattle.solver.proofs.Optimum.{boardOf, into-same, is-total}
-use Rattle.solver.proofs.TableLaws.{table-four}
+use Rattle.score_table.proofs.Places.{table-four}
 use Rattle.solver.proofs.Machine.{setup, markIn, view, at, machine, Here}
 use Rattle.solver.proofs.Memory.{Run, entries, first, after, filling, board-size, board-rest, board-rows, table-filled}
 use Rattle.solver.proofs.Lists.{Reached, reached-fits, reached-units, listed}

@@ -9,9 +9,12 @@ use borrow.Author.Tests.{lt-ltb, le-ltb, eq-eqb, ne-eqb}
 use lib.ListN.{set}
 use Rattle.board.specs.Answers.{Answer, refuses}
 use Rattle.elimination.specs.Candidates.{nothing, chosen}
-use Rattle.solver.specs.Rows.{rowWorth, written}
-use Rattle.solver.specs.Jobs.{tableSize, stageSays}
-use Rattle.solver.specs.Units.{next, unitPlace, unitEntry, filledTo, rowChoice, chosenTo, unitOf}
+use Rattle.rule.specs.Rule.{conway}
+use Rattle.score_table.specs.Rows.{rowWorth}
+use Rattle.solver.specs.Rows.{written}
+use Rattle.score_table.specs.ScoreTable.{tableSize, unitPlace, unitEntry, rowChoice}
+use Rattle.solver.specs.Jobs.{stageSays}
+use Rattle.solver.specs.Units.{next, filledTo, chosenTo, unitOf}
 use Rattle.solver.specs.Calls.{worksOn}
 use Rattle.solver.specs.Inner.{hasEnded, lentState, stepOf, Lent, Moves, Chosen}
 use Rattle.solver.specs.declared.Stage.{Stage}
@@ -38,23 +41,23 @@ choosing-over r h last c x n m l e s p = rw (le-ltb (r + 1) h l, ← e) p
 
 -- ---- a row
 module _ (j : Job) (above last soFar : ℕ) (g t β : List ℕ) (r : ℕ) (e : r ≡ j .units - tableSize (j .width) (j .height)) where
-  pub chosen-row : (c n : ℕ) (s : Stage) → rowChoice (j .width) (j .height) g t r above last ≡ chosen c n
+  pub chosen-row : (c n : ℕ) (s : Stage) → rowChoice conway (j .width) (j .height) g t r above last ≡ chosen c n
       → s ≡ chosenTo (j .height) (r + 1) last c (soFar + rowWorth (j .width) g (r * j .width) c)
       → Chosen j above last soFar g t β (Stepped.Next (record { width = j .width; height = j .height; units = j .units + 1; stage = s }))
       (written (j .width) c β (r * j .width) (j .width))
   chosen-row c n s f q = record { step = rw (← e, f, q); same = next-not-spoiled }
 
-  pub chosen-none : r ≡ 0 → rowChoice (j .width) (j .height) g t r above last ≡ nothing
+  pub chosen-none : r ≡ 0 → rowChoice conway (j .width) (j .height) g t r above last ≡ nothing
       → Chosen j above last soFar g t β (Stepped.Next (record { width = j .width; height = j .height; units = j .units + 1; stage = Stage.Infeasible })) β
   chosen-none z f = record { step = rw (← e, f, eq-eqb r 0 z); same = next-not-spoiled }
 
-  pub chosen-spoiled : (r ≡ 0 → ⊥) → rowChoice (j .width) (j .height) g t r above last ≡ nothing → Chosen j above last soFar g t β Stepped.Spoiled β
+  pub chosen-spoiled : (r ≡ 0 → ⊥) → rowChoice conway (j .width) (j .height) g t r above last ≡ nothing → Chosen j above last soFar g t β Stepped.Spoiled β
   chosen-spoiled n f = record { step = rw (← e, f, ne-eqb r 0 n); same = λ x. refl }
 
 -- ---- a unit, by stage
 module _ (j : Job) (g t β : List ℕ) where
   pub moves-fill : j .stage ≡ Stage.Filling → (s : Stage) → s ≡ filledTo (j .width) (j .height) (j .units + 1)
-      → (t′ : List ℕ) → t′ ≡ set t (unitPlace (j .width) (j .height) (j .units)) (unitEntry (j .width) (j .height) g t (j .units))
+      → (t′ : List ℕ) → t′ ≡ set t (unitPlace (j .width) (j .height) (j .units)) (unitEntry conway (j .width) (j .height) g t (j .units))
       → Moves j g t β (Stepped.Next (record { width = j .width; height = j .height; units = j .units + 1; stage = s })) t′ β
   unfolding unitOf
   moves-fill e s p t′ q = record { step = rw (e, p, q); same = next-not-spoiled }

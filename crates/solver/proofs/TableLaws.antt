@@ -16,35 +16,15 @@ use Rattle.elimination.specs.Filling as Filling
 use Rattle.elimination.proofs.Candidates.{scan-finds-best}
 use Rattle.elimination.proofs.Kind.{choose-scan}
 use Rattle.elimination.proofs.Filling.{place-digits, place-lt, right-at-unit-entry}
-use Rattle.solver.specs.ScoreTable.{placeOf, readsOf}
-use Rattle.solver.specs.Jobs.{tableSize}
-use Rattle.solver.specs.Units.{unitPlace, unitEntry, rowChoice}
+use Rattle.rule.specs.Rule.{conway}
+use Rattle.score_table.specs.ScoreTable.{placeOf, readsOf, tableSize, unitPlace, unitEntry, rowChoice}
 use Rattle.solver.specs.Demand.{rightUnit}
-use Rattle.solver.proofs.Powers.{four-two}
+use Rattle.score_table.proofs.Powers.{four-two}
 use Rattle.solver.proofs.Endings.{kind, kind-laws}
 
 -- the entries of a layer, as row elimination counts them
 abbrev layer : ℕ → ℕ
 layer w = 2 ^ w * 2 ^ w
-
-pub table-four : (w h : ℕ) → tableSize w h ≡ h * (2 ^ w * 2 ^ w)
-unfolding tableSize
-table-four w h = ap (λ (q : ℕ). h * q) (four-two w)
-
--- the place that a unit writes, by its layer and its place there
-pub unit-place : (w h u : ℕ) → unitPlace w h u ≡ (h - 1 - u / 4 ^ w) * 4 ^ w + u % 4 ^ w
-unfolding unitPlace placeOf
-unit-place w h u =
-    let j = u % 4 ^ w in
-    let e : h - u / 4 ^ w - 1 ≡ h - 1 - u / 4 ^ w = omega arith in
-    let d : j / 2 ^ w * 2 ^ w + j % 2 ^ w ≡ j = div-add-mod' j (2 ^ w) in
-    rw e (omega arith)
-
-pub place-same : (w h u : ℕ) → unitPlace w h u ≡ Filling.place h (2 ^ w * 2 ^ w) u
-place-same w h u = unit-place w h u ∙ rw (four-two w) (sym (place-digits h (2 ^ w * 2 ^ w) u))
-
-pub unit-place-lt : (w h u : ℕ) → u < tableSize w h → unitPlace w h u < tableSize w h
-unit-place-lt w h u l = rw (place-same w h u, table-four w h) (place-lt h (2 ^ w * 2 ^ w) u (rw (table-four w h) at l))
 
 module _ (w h : ℕ) (g : List ℕ) where
   pub right-same : (u : ℕ) → rightUnit w h g u ≡ rightAtUnit (kind w h g) u
@@ -56,13 +36,13 @@ module _ (w h : ℕ) (g : List ℕ) where
   unfolding reads placeOf
   reads-same t r b = fun-ext (λ c. let e : r + 1 - 1 ≡ r = omega arith in rw (four-two w, e) (ap (λ (p : ℕ). getD t p 0) (omega arith)))
 
-  pub entry-same : (t : List ℕ) (u : ℕ) → unitEntry w h g t u ≡ entryAtUnit (kind w h g) h u t
+  pub entry-same : (t : List ℕ) (u : ℕ) → unitEntry conway w h g t u ≡ entryAtUnit (kind w h g) h u t
   unfolding unitEntry
   entry-same t u =
       rw (four-two w)
       (ap (entry (kind w h g) (u / layer w) (u % layer w / 2 ^ w) (u % layer w % 2 ^ w)) (reads-same t (h - u / layer w) (u % layer w % 2 ^ w)))
 
-  pub choice-same : (t : List ℕ) (r a b : ℕ) → rowChoice w h g t r a b ≡ choose (kind w h g) (h - suc r) a b (reads (kind w h g) t (r * (2 ^ w * 2 ^ w)) b)
+  pub choice-same : (t : List ℕ) (r a b : ℕ) → rowChoice conway w h g t r a b ≡ choose (kind w h g) (h - suc r) a b (reads (kind w h g) t (r * (2 ^ w * 2 ^ w)) b)
   unfolding rowChoice
   choice-same t r a b = ap (choose (kind w h g) (h - suc r) a b) (reads-same t r b)
 
@@ -75,7 +55,7 @@ found-lt : {K : Comparison ℕ} {offered : ℕ → Option ℕ} {m : ℕ} {o : Ch
 found-lt (noneFound f) = tt
 found-lt (bestFound r y B) = B .inside
 
-pub choice-lt : {w h : ℕ} → Sized w h → (g t : List ℕ) (r a b : ℕ) → RowBelow (2 ^ w) (rowChoice w h g t r a b)
+pub choice-lt : {w h : ℕ} → Sized w h → (g t : List ℕ) (r a b : ℕ) → RowBelow (2 ^ w) (rowChoice conway w h g t r a b)
 unfolding rowChoice
 choice-lt {w} {h} z g t r a b =
     let L = kind-laws w h g z in

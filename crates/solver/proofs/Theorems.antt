@@ -18,11 +18,11 @@ use Rattle.elimination.proofs.Kind.{entry-more, right-entry-last, right-entry-m
 use Rattle.elimination.proofs.Sums.{tied-equal}
 use Rattle.elimination.proofs.Endings.{total-none, total-more, elimination-solves, ending-counts}
 use Rattle.solver.specs.Grid.{Solution, BestBy, score, population}
-use Rattle.solver.specs.Rows.{cellWorth, rowWorth}
-use Rattle.solver.specs.ScoreTable.{readsOf}
+use Rattle.score_table.specs.Rows.{cellWorth, rowWorth}
+use Rattle.score_table.specs.ScoreTable.{readsOf}
 use Rattle.solver.specs.Theorems as Theorems
 use Rattle.solver.specs.Theorems.{allRows, EndingsAreSolutions, BestOrNone, best, none, ChoiceIsOptimal, rowsWorth, Greatest, greatest, RightLayer, EntriesRight, givenLive, GivensApart, SameBest}
-use Rattle.solver.proofs.RowLaws.{MarkIs, isDead, isLive, isFree, mark-is, worth-dead, worth-live, worth-free}
+use Rattle.score_table.proofs.Marks.{MarkIs, isDead, isLive, isFree, mark-is, worth-dead, worth-live, worth-free}
 use Rattle.solver.proofs.Endings.{kind, kind-laws, solution-ends, ends-solution}
 use Rattle.solver.proofs.Optimum.{boardOf, is-rows, is-score, optimal}
 

@@ -19,7 +19,8 @@ use Rattle.elimination.specs.Kind.{rightEntry, rightRows}
 use Rattle.elimination.specs.Completion.{Completion, toBoard, toNone}
 use Rattle.elimination.proofs.FillThenChoose.{fill-then-choose-completes}
 use Rattle.solver.specs.Grid.{score}
-use Rattle.solver.specs.Jobs.{tableSize, boardLength, noneLength, start, jobSays, openRule, openedSays, jobFits}
+use Rattle.score_table.specs.ScoreTable.{tableSize}
+use Rattle.solver.specs.Jobs.{boardLength, noneLength, start, jobSays, openRule, openedSays, jobFits}
 use Rattle.solver.specs.Jobs as Jobs
 use Rattle.solver.specs.Units.{State}
 use Rattle.solver.specs.Demand.{Call, Each, Fair, Served, Outcome, solved, unsolvable, ThirdDemand}
@@ -29,7 +30,7 @@ use Rattle.solver.specs.declared.Job.{Job}
 use Rattle.solver.proofs.Fits.{fits-of, pausable}
 use Rattle.solver.proofs.Endings.{kind, kind-laws, solution-ends}
 use Rattle.solver.proofs.Optimum.{putRow, boardOf, optimal}
-use Rattle.solver.proofs.TableLaws.{table-four}
+use Rattle.score_table.proofs.Places.{table-four}
 use Rattle.solver.proofs.Machine.{setup, at}
 use Rattle.solver.proofs.Memory.{entries}
 use Rattle.solver.proofs.Lists.{idle}

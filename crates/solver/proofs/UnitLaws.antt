@@ -4,15 +4,18 @@
 use mathlib.Core.Path.{_≡_, refl, _∙_, subst}
 use mathlib.Core.Bool.{Bool, true, false, cond}
 use mathlib.Core.List.{List}
-use Prim.Native.Nat.{ℕ, _+_, _*_, _-_, _≤_}
+use Prim.Native.Nat.{ℕ, _+_, _*_, _-_, _≤_, _<_}
 use native.Mathlib.Nat.{mul-le-mul}
 use native.Mathlib.Omega.{arith}
 use lib.Dec.{eqb}
 use lib.ListN.{length, length-set}
 use Rattle.elimination.specs.Candidates.{Choice, nothing, chosen}
-use Rattle.solver.specs.Jobs.{tableSize, jobFits}
-use Rattle.solver.specs.Units.{State, Step, next, spoiled, unitPlace, unitEntry, rowChoice, chooseStep, stageStep, unitOf}
-use Rattle.solver.specs.Inner.{Lent, Fills, Chooses}
+use Rattle.rule.specs.Rule.{conway}
+use Rattle.score_table.specs.ScoreTable.{tableSize, unitPlace, unitEntry, rowChoice}
+use Rattle.solver.specs.Jobs.{jobFits}
+use Rattle.solver.specs.Units.{State, Step, next, spoiled, chooseStep, stageStep, unitOf}
+use Rattle.solver.specs.Inner.{Lent, Chooses}
+use Rattle.score_table.specs.Inner.{Memory}
 use Rattle.solver.specs.declared.Stage.{Stage}
 use Rattle.solver.specs.declared.Job.{Job}
 use Rattle.solver.proofs.Fits.{Choosing, jobAt, fits-at}
@@ -52,9 +55,9 @@ choose-lengths g w h u r last soFar t β nothing = go (eqb r 0)
     go false = tt
 
 stage-lengths : (g : List ℕ) (w h u : ℕ) (s : Stage) (t β : List ℕ) → StepLengths t β (stageStep g w h u s t β)
-stage-lengths g w h u Stage.Filling t β = record { table = length-set t (unitPlace w h u) (unitEntry w h g t u); board = refl }
+stage-lengths g w h u Stage.Filling t β = record { table = length-set t (unitPlace w h u) (unitEntry conway w h g t u); board = refl }
 stage-lengths g w h u (Stage.Choosing above last soFar) t β =
-    choose-lengths g w h u (u - tableSize w h) last soFar t β (rowChoice w h g t (u - tableSize w h) above last)
+    choose-lengths g w h u (u - tableSize w h) last soFar t β (rowChoice conway w h g t (u - tableSize w h) above last)
 stage-lengths g w h u (Stage.Finished above last score) t β = record { table = refl; board = refl }
 stage-lengths g w h u Stage.Infeasible t β = record { table = refl; board = refl }
 
@@ -75,10 +78,13 @@ unit-lent g s s′ L e =
     }
 
 -- ---- what they have shown, by the job's stage
-pub lent-fills : {j : Job} {g t β : List ℕ} → Lent j g t β → j .stage ≡ Stage.Filling → Fills (j .width) (j .height) (j .units) g t
-lent-fills {j} L e =
+pub lent-memory : {j : Job} {g t β : List ℕ} → Lent j g t β → Memory (j .width) (j .height) g t
+lent-memory {j} L =
     let T = fits-at j (L .taken) in
-    record { narrow = T .size .narrow; low = T .size .low; early = rw e at (T .stage); marks = L .marks; entries = L .entries }
+    record { narrow = T .size .narrow; low = T .size .low; marks = L .marks; entries = L .entries }
+
+pub lent-early : {j : Job} {g t β : List ℕ} → Lent j g t β → j .stage ≡ Stage.Filling → j .units < tableSize (j .width) (j .height)
+lent-early {j} L e = rw e at (fits-at j (L .taken) .stage)
 
 pub lent-chooses : {j : Job} {g t β : List ℕ} {above last live : ℕ} → Lent j g t β → j .stage ≡ Stage.Choosing above last live → Chooses j above last live g t β
 lent-chooses {j} {above = above} {last = last} {live = live} L e =
@@ -86,14 +92,11 @@ lent-chooses {j} {above = above} {last = last} {live = live} L e =
     let F : Choosing (j .width) (j .height) (j .units) above last live = rw e at (T .stage) in
     let k : j .units - tableSize (j .width) (j .height) ≤ 60 = omega (arith, F .until, F .from, T .size .low) in
     record {
-      narrow = T .size .narrow;
-      low = T .size .low;
+      memory = lent-memory L;
       over = F .over;
       below = F .below;
       from = F .from;
       until = F .until;
       few = omega (arith, F .rows .few, mul-le-mul (T .size .narrow) k);
-      marks = L .marks;
       cells = L .cells;
-      entries = L .entries;
     }

@@ -9,9 +9,9 @@ use Rattle.board.specs.Answers.{Answer, gives, refuses, passed}
 use Rattle.elimination.specs.Kind.{rightEntry}
 use Rattle.rule.specs.Rule.{conway}
 use Rattle.solver.specs.Grid.{Solution, Optimal, score}
-use Rattle.solver.specs.ScoreTable.{kindOf}
-use Rattle.solver.specs.Jobs.{tableSize, boardLength, noneLength, numbersOf, jobSays, checkpointSays, checkpointFits, jobFits, jobOf, pauseRule, resumeRule, workCheck, unfinished, finished, infeasible}
-use Rattle.solver.specs.Units.{State, rowsAfter, rowA, rowB, unitPlace}
+use Rattle.score_table.specs.ScoreTable.{kindOf, tableSize, rowsAfter, rowA, rowB, unitPlace}
+use Rattle.solver.specs.Jobs.{boardLength, noneLength, numbersOf, jobSays, checkpointSays, checkpointFits, jobFits, jobOf, pauseRule, resumeRule, workCheck, unfinished, finished, infeasible}
+use Rattle.solver.specs.Units.{State}
 use Rattle.solver.specs.Calls.{Opens, Result, workOf}
 use Rattle.solver.specs.declared.Stage.{Stage}
 use Rattle.solver.specs.declared.Job.{Job}

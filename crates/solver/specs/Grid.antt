@@ -9,7 +9,7 @@ use Rattle.board.specs.Sums.{total}
 use Rattle.board.specs.Boards.{Board}
 use Rattle.life.specs.Plane.{onPlane, Still}
 use Rattle.life.specs.Rows.{rowOf}
-use Rattle.solver.specs.Rows.{cellWorth}
+use Rattle.score_table.specs.Rows.{cellWorth}
 
 -- a board keeps the givens: every given cell has its given state, 1 given dead, 2 given live
 pub record KeepsGivens (w h : ℕ) (givens board : List ℕ) : Type 0 where

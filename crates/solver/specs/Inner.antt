@@ -1,34 +1,17 @@
--- What the inner functions are lent and answer, in the terms of the score table and of a unit.
+-- What the inner functions are lent and answer, in the terms of a unit.
 -- Assumes nothing.
 use mathlib.Core.Path.{_≡_}
 use mathlib.Core.Bool.{Bool, true, false}
 use mathlib.Core.List.{List}
-use Prim.Native.Nat.{ℕ, _+_, _*_, _-_, _/_, _^_, _≤_, _<_}
+use Prim.Native.Nat.{ℕ, _+_, _*_, _^_, _≤_, _<_}
 use lib.ListN.{length}
-use Rattle.elimination.specs.Candidates.{Choice}
-use Rattle.solver.specs.ScoreTable.{choiceOf}
-use Rattle.solver.specs.Jobs.{tableSize, jobFits}
+use Rattle.score_table.specs.ScoreTable.{tableSize}
+use Rattle.score_table.specs.Inner.{Memory}
+use Rattle.solver.specs.Jobs.{jobFits}
 use Rattle.solver.specs.Units.{State, Step, next, spoiled, stageStep, unitOf}
-use Rattle.solver.specs.declared.best.Best.{Best}
 use Rattle.solver.specs.declared.choosing.Stepped.{Stepped}
 use Rattle.solver.specs.declared.Stage.{Stage}
 use Rattle.solver.specs.declared.Job.{Job}
-
--- ---- the best row
--- the next row that differs from x in columns 1 to j + 1
-unfoldable pub skipTo : ℕ → ℕ → ℕ → ℕ
-skipTo w x j = (x / 2 ^ (w - (j + 1)) + 1) * 2 ^ (w - (j + 1))
-
--- the best row is the rule's choice; a row that is found is one, and its number fits 16 bits
-pub record Found (w : ℕ) (r : Best) (wanted : Choice ℕ) : Type 0 where
-  pub is : choiceOf r ≡ wanted
-  pub row-lt : (c n : ℕ) → r ≡ Best.Row c n → c < 2 ^ w
-  pub number-le : (c n : ℕ) → r ≡ Best.Row c n → n ≤ 600 + w
-
--- ---- units
--- the entries of a layer
-abbrev pub layerSize : ℕ → ℕ
-layerSize w = 4 ^ w
 
 -- the job has ended
 abbrev pub hasEnded : Stage → Bool
@@ -47,24 +30,14 @@ pub record Lent (j : Job) (givens table board : List ℕ) : Type 0 where
   pub cells : length board ≡ j .width * j .height
   pub entries : tableSize (j .width) (j .height) ≤ length table
 
-pub record Fills (w h u : ℕ) (givens table : List ℕ) : Type 0 where
-  pub narrow : w ≤ 10
-  pub low : h ≤ 60
-  pub early : u < tableSize w h
-  pub marks : length givens ≡ w * h
-  pub entries : tableSize w h ≤ length table
-
 pub record Chooses (j : Job) (above last live : ℕ) (givens table board : List ℕ) : Type 0 where
-  pub narrow : j .width ≤ 10
-  pub low : j .height ≤ 60
+  pub memory : Memory (j .width) (j .height) givens table
   pub over : above < 2 ^ j .width
   pub below : last < 2 ^ j .width
   pub from : tableSize (j .width) (j .height) ≤ j .units
   pub until : j .units < tableSize (j .width) (j .height) + j .height
   pub few : live ≤ 600
-  pub marks : length givens ≡ j .width * j .height
   pub cells : length board ≡ j .width * j .height
-  pub entries : tableSize (j .width) (j .height) ≤ length table
 
 abbrev pub stepOf : Stepped → List ℕ → List ℕ → Step
 stepOf (Stepped.Next j) table board = next (lentState j table board)

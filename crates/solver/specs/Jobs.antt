@@ -9,6 +9,7 @@ use lib.ListN.{length}
 use Rattle.board.specs.Answers.{Answer, gives, refusalSays, _then_, refuseUnless}
 use Rattle.board.specs.Boards.{among}
 use Rattle.board.specs.Checks.{sizeCheck, givensCheck, lengthCheck}
+use Rattle.score_table.specs.ScoreTable.{tableSize}
 use Rattle.solver.specs.declared.Stage.{Stage}
 use Rattle.solver.specs.declared.Job.{Job}
 use Rattle.solver.specs.declared.Checkpoint.{Checkpoint}
@@ -18,10 +19,6 @@ use Rattle.solver.specs.declared.Resumed.{Resumed}
 use Rattle.solver.specs.declared.Status.{Status}
 
 -- ---- lengths
--- the entries of the table, which are the units of filling: h × 4^w
-unfoldable pub tableSize : ℕ → ℕ → ℕ
-tableSize w h = h * 4 ^ w
-
 -- a job's length where a still board that keeps the givens exists, and where none does
 abbrev pub boardLength : ℕ → ℕ → ℕ
 boardLength w h = h * (4 ^ w + 1)

@@ -1,6 +1,5 @@
 pub mod Grid
 pub mod Rows
-pub mod ScoreTable
 pub mod Jobs
 pub mod Units
 pub mod Calls

@@ -16,8 +16,8 @@ use Rattle.elimination.specs.Endings.{Ending}
 use Rattle.rule.specs.Rule.{conway}
 use Rattle.life.specs.Rows.{rowOf}
 use Rattle.solver.specs.Grid.{KeepsGivens, Solution, BestBy, Optimal, score, population}
-use Rattle.solver.specs.Rows.{rowWorth}
-use Rattle.solver.specs.ScoreTable.{kindOf, readsOf}
+use Rattle.score_table.specs.Rows.{rowWorth}
+use Rattle.score_table.specs.ScoreTable.{kindOf, readsOf}
 
 -- ---- boards and endings
 -- the k rows of a board that follow row r, as numbers

@@ -2,15 +2,14 @@
 -- Assumes nothing.
 use mathlib.Core.Bool.{cond}
 use mathlib.Core.List.{List}
-use Prim.Native.Nat.{ℕ, suc, _+_, _*_, _-_, _/_, _%_, _^_}
+use Prim.Native.Nat.{ℕ, _+_, _*_, _-_}
 use lib.Dec.{eqb, ltb}
 use lib.ListN.{set}
 use Rattle.elimination.specs.Candidates.{Choice, nothing, chosen}
-use Rattle.elimination.specs.Kind.{choose, entry}
 use Rattle.rule.specs.Rule.{conway}
-use Rattle.solver.specs.Rows.{rowWorth, written}
-use Rattle.solver.specs.ScoreTable.{kindOf, placeOf, readsOf}
-use Rattle.solver.specs.Jobs.{tableSize}
+use Rattle.score_table.specs.Rows.{rowWorth}
+use Rattle.solver.specs.Rows.{written}
+use Rattle.score_table.specs.ScoreTable.{tableSize, unitPlace, unitEntry, rowChoice}
 use Rattle.solver.specs.declared.Stage.{Stage}
 use Rattle.solver.specs.declared.Job.{Job}
 
@@ -26,25 +25,6 @@ pub data Step : Type 0 where
   spoiled : Step
 
 -- ---- filling
--- unit u of filling writes entry (h - rowsAfter, rowA, rowB): layer h first, then upward; in a layer a rises, then b
-abbrev pub rowsAfter : ℕ → ℕ → ℕ
-rowsAfter w u = u / 4 ^ w
-
-abbrev pub rowA : ℕ → ℕ → ℕ
-rowA w u = u % 4 ^ w / 2 ^ w
-
-abbrev pub rowB : ℕ → ℕ → ℕ
-rowB w u = u % 4 ^ w % 2 ^ w
-
--- the place that it writes
-unfoldable pub unitPlace : ℕ → ℕ → ℕ → ℕ
-unitPlace w h u = placeOf w (h - rowsAfter w u) (rowA w u) (rowB w u)
-
--- the number that it writes: the rule of an entry, over what the table holds in the layer below
-unfoldable pub unitEntry : ℕ → ℕ → List ℕ → List ℕ → ℕ → ℕ
-unitEntry w h givens table u =
-    entry (kindOf conway w h givens) (rowsAfter w u) (rowA w u) (rowB w u) (readsOf w table (h - rowsAfter w u + 1) (rowB w u))
-
 -- the stage once u entries are written
 abbrev pub filledTo : ℕ → ℕ → ℕ → Stage
 filledTo w h u = cond (ltb u (tableSize w h)) Stage.Filling (Stage.Choosing 0 0 0)
@@ -53,15 +33,11 @@ abbrev pub fillStep : List ℕ → ℕ → ℕ → ℕ → List ℕ → List ℕ
 fillStep givens w h u table board =
     next record {
       job = record { width = w; height = h; units = u + 1; stage = filledTo w h (u + 1) };
-      table = set table (unitPlace w h u) (unitEntry w h givens table u);
+      table = set table (unitPlace w h u) (unitEntry conway w h givens table u);
       board = board;
     }
 
 -- ---- choosing
--- the choice of the row with r rows above it, the last two of them `above` and `last`: the rule of a choice over entries (r + 1, last, c)
-unfoldable pub rowChoice : ℕ → ℕ → List ℕ → List ℕ → ℕ → ℕ → ℕ → Choice ℕ
-rowChoice w h givens table r above last = choose (kindOf conway w h givens) (h - suc r) above last (readsOf w table (r + 1) last)
-
 -- the stage once k rows are chosen, the last two of them `above` and `last`, worth n
 abbrev pub chosenTo : ℕ → ℕ → ℕ → ℕ → ℕ → Stage
 chosenTo h k above last n = cond (ltb k h) (Stage.Choosing above last n) (Stage.Finished above last n)
@@ -81,7 +57,7 @@ chooseStep givens w h u r last soFar table board nothing =
 abbrev pub stageStep : List ℕ → ℕ → ℕ → ℕ → Stage → List ℕ → List ℕ → Step
 stageStep givens w h u Stage.Filling table board = fillStep givens w h u table board
 stageStep givens w h u (Stage.Choosing above last soFar) table board =
-    chooseStep givens w h u (u - tableSize w h) last soFar table board (rowChoice w h givens table (u - tableSize w h) above last)
+    chooseStep givens w h u (u - tableSize w h) last soFar table board (rowChoice conway w h givens table (u - tableSize w h) above last)
 stageStep givens w h u (Stage.Finished above last score) table board =
     next record { job = record { width = w; height = h; units = u; stage = Stage.Finished above last score }; table = table; board = board }
 stageStep givens w h u Stage.Infeasible table board =

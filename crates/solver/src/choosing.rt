@@ -1,12 +1,13 @@
 // Choosing: one row of the board a unit.
 use crate::Job;
 use crate::Stage;
-use crate::best;
-use crate::best::Best;
-use crate::filling;
 use crate::numbers;
-use crate::rows;
+use score_table::Picked;
+ghost use mathlib.Core.Path.{_≡_};
+ghost use Prim.Native.Nat.{_+_, _≤_};
+ghost use lib.ListN.{length};
 ghost use Rattle.rule.specs.Rule.{Conway};
+ghost use Rattle.solver.specs.Rows.{written};
 ghost use Rattle.solver.specs.Inner.{Chooses, Chosen};
 
 // What a unit comes to: the next job, or no row can be chosen after row 1.
@@ -34,10 +35,8 @@ pub fn choose(
     let h = job.height;
     let u = job.units;
     let r = u - numbers::table_size(w, h);
-    let at = r * w;
-    let first = r * filling::layer_size(w) + last * rows::row_codes(w);
-    match best::best_row(next, w, above, last, givens, at, table, first) {
-        Best::Nothing => {
+    match score_table::choose_row(next, w, h, r, above, last, givens, table) {
+        Picked::Nothing => {
             if r != 0 {
                 return Stepped::Spoiled;
             }
@@ -48,19 +47,19 @@ pub fn choose(
                 stage: Stage::Infeasible,
             })
         }
-        Best::Row(c, _) => {
-            rows::write_row(w, c, board, at);
-            let n = live + rows::row_worth(w, givens, at, c);
+        Picked::Row { row, worth, sum: _ } => {
+            write_row(w, row, board, r * w);
+            let n = live + worth;
             let stage = if r + 1 < h {
                 Stage::Choosing {
                     above: last,
-                    last: c,
+                    last: row,
                     live: n,
                 }
             } else {
                 Stage::Finished {
                     above: last,
-                    last: c,
+                    last: row,
                     score: n,
                 }
             };
@@ -71,5 +70,15 @@ pub fn choose(
                 stage,
             })
         }
+    }
+}
+
+// Writes a row's cells into a board from a place on.
+fn write_row(w: usize, row: usize, board: &mut [u8], at: usize)
+    requires { ⌜ (w ≤ 10) × (at + w ≤ length (now board)) ⌝ }
+    ensures { λ _. ⌜ now (board .exit) ≡ written w row (now (board .entry)) at w ⌝ }
+{
+    for k in 0..w {
+        board[at + k] = ((row >> (w - (k + 1))) % 2) as u8;
     }
 }

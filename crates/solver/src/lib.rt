@@ -3,11 +3,8 @@
 use board::Check;
 use board::Refusal;
 
-mod best;
 mod choosing;
-mod filling;
 mod numbers;
-mod rows;
 mod working;
 
 ghost use Rattle.solver.specs.Calls.{Opens, Pauses, Resumes, Works};

@@ -2,11 +2,11 @@
 use crate::Checkpoint;
 use crate::Job;
 use crate::Stage;
-use crate::rows;
 use board::Check;
 ghost use mathlib.Core.Path.{_≡_};
 ghost use Prim.Native.Nat.{_≤_};
-ghost use Rattle.solver.specs.Jobs.{tableSize, unitsFit, rowsChosen, rowsFit, checkpointFits, stageFits, jobFits, numbersOf, stageOf};
+ghost use Rattle.score_table.specs.ScoreTable.{tableSize};
+ghost use Rattle.solver.specs.Jobs.{unitsFit, rowsChosen, rowsFit, checkpointFits, stageFits, jobFits, numbersOf, stageOf};
 
 // The entries of the table, h × 4^w.
 pub fn table_size(w: usize, h: usize) -> usize
@@ -67,11 +67,10 @@ pub fn checkpoint_fits(t: Checkpoint) -> bool
     if let Check::Refused(_) = board::check_size(w, h) {
         return false;
     }
-    let n = rows::row_codes(w);
-    if n <= t.above {
+    if t.above >> w != 0 {
         return false;
     }
-    if n <= t.last {
+    if t.last >> w != 0 {
         return false;
     }
     if !units_fit(w, h, t.units, t.mark) {

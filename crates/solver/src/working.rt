@@ -5,7 +5,6 @@ use crate::Status;
 use crate::Worked;
 use crate::choosing;
 use crate::choosing::Stepped;
-use crate::filling;
 use crate::numbers;
 use board::Check;
 use board::Refusal;
@@ -88,7 +87,7 @@ fn unit(next: &[u8; 512], job: Job, givens: &[u8], table: &mut [u16], board: &mu
             let w = job.width;
             let h = job.height;
             let u = job.units;
-            filling::fill(next, w, h, u, givens, table);
+            score_table::fill(next, w, h, u, givens, table);
             let stage = if u + 1 < numbers::table_size(w, h) {
                 Stage::Filling
             } else {

@@ -12,7 +12,7 @@ use Rattle.board.specs.Boards.{Sized}
 use Rattle.board.proofs.Answers.{let-through}
 use Rattle.board.proofs.Checks.{sized}
 use Rattle.solver.specs.Jobs.{unitsFit, checkpointFits}
-use Rattle.solver.proofs.Checkpoints.{size-fits, size-misfits, chosen-le}
+use Rattle.solver.proofs.Checkpoints.{size-fits, size-misfits, chosen-le, shift-none, shift-some}
 use Rattle.solver.proofs.numbers.checkpoint_fits.Statement.{statement}
 use Rattle.solver.proofs.numbers.checkpoint_fits.Tie as tie
 
@@ -20,15 +20,15 @@ use Rattle.solver.proofs.numbers.checkpoint_fits.Tie as tie
 size-at : (c : tie.After-enum-told2) → let t = c .before .before .before .args .t in Sized (t .width) (t .height)
 size-at c = sized _ _ (let-through (c .before .before .check-size .ensures) (c .enum-told2 .given .1))
 
-over-at : (c : tie.Else1) → let t = c .before .before .before .before .before .before .args .t in ltb (t .above) (2 ^ t .width) ≡ true
-over-at c = lt-ltb _ _ (rw (c .before .before .row-codes .ensures .0) at (c .if1 .left))
+over-at : (c : tie.Else1) → let t = c .before .before .before .before .before .args .t in ltb (t .above) (2 ^ t .width) ≡ true
+over-at c = lt-ltb _ _ (shift-none _ _ (c .if1 .left))
 
 below-at :
-    (c : tie.Else2) → let t = c .before .before .before .before .before .before .before .before .args .t in ltb (t .last) (2 ^ t .width) ≡ true
-below-at c = lt-ltb _ _ (rw (c .before .before .before .before .row-codes .ensures .0) at (c .if2 .left))
+    (c : tie.Else2) → let t = c .before .before .before .before .before .before .before .args .t in ltb (t .last) (2 ^ t .width) ≡ true
+below-at c = lt-ltb _ _ (shift-none _ _ (c .if2 .left))
 
 units-at :
-    (c : tie.Else3) → let t = c .before .before .before .before .before .before .before .before .before .before .args .t in
+    (c : tie.Else3) → let t = c .before .before .before .before .before .before .before .before .before .args .t in
     unitsFit (t .width) (t .height) (t .units) (t .mark) ≡ true
 units-at c = sym (c .before .units-fit .ensures) ∙ not-false _ (c .if3 .left)
 
@@ -45,44 +45,42 @@ returns c = simp (size-misfits _ _ (sym (c .before .before .check-size .ensures)
 enum-told-2 : tie.Need-enum-told-2
 enum-told-2 c = search needs
 
-row-codes-requires : tie.Need-row-codes-requires
-row-codes-requires c κs = size-at c .narrow
+shr-if1 : tie.Need-shr-if1
+shr-if1 c = omega (arith, size-at (c .before) .narrow)
 
 returns-2 : tie.Need-returns-2
 unfolding checkpointFits
-returns-2 c =
-    simp (size-fits (size-at (c .before .before .before)), le-ltb _ _ (rw (c .before .before .row-codes .ensures .0) at (c .if1 .taken)))
+returns-2 c = simp (size-fits (size-at (c .before .before)), le-ltb _ _ (shift-some _ _ (c .if1 .taken)))
+
+shr-if2 : tie.Need-shr-if2
+shr-if2 c = omega (arith, size-at (c .before .before .before) .narrow)
 
 returns-3 : tie.Need-returns-3
 unfolding checkpointFits
 returns-3 c =
     let d = c .before .before in
-    simp (
-      size-fits (size-at (d .before .before .before)),
-      over-at d,
-      le-ltb _ _ (rw (d .before .before .row-codes .ensures .0) at (c .if2 .taken)),
-    )
+    simp (size-fits (size-at (d .before .before)), over-at d, le-ltb _ _ (shift-some _ _ (c .if2 .taken)))
 
 units-fit-requires : tie.Need-units-fit-requires
-units-fit-requires c κs = let s = size-at (c .before .before .before .before .before) in (s .narrow, s .low)
+units-fit-requires c κs = let s = size-at (c .before .before .before .before) in (s .narrow, s .low)
 
 returns-4 : tie.Need-returns-4
 unfolding checkpointFits
 returns-4 c =
     simp (
-      size-fits (size-at (c .before .before .before .before .before .before .before)),
+      size-fits (size-at (c .before .before .before .before .before .before)),
       over-at (c .before .before .before .before),
       below-at (c .before .before),
       sym (c .before .units-fit .ensures) ∙ not-true _ (c .if3 .taken),
     )
 
 rows-chosen-requires : tie.Need-rows-chosen-requires
-rows-chosen-requires c κs = let s = size-at (c .before .before .before .before .before .before .before) in (s .narrow, s .low)
+rows-chosen-requires c κs = let s = size-at (c .before .before .before .before .before .before) in (s .narrow, s .low)
 
 rows-fit-requires : tie.Need-rows-fit-requires
 rows-fit-requires c κs =
     let d = c .before .before .before in
-    let s = size-at (d .before .before .before .before .before) in
+    let s = size-at (d .before .before .before .before) in
     (s .narrow, omega (arith, c .rows-chosen .ensures, chosen-le _ _ _ _ (units-at (c .before))))
 
 returns-5 : tie.Need-returns-5
@@ -90,7 +88,7 @@ unfolding checkpointFits
 returns-5 c =
     let d = c .before .before .before .before in
     rw (c .rows-fit .ensures, c .before .rows-chosen .ensures)
-    (simp (size-fits (size-at (d .before .before .before .before .before)), over-at (d .before .before), below-at d, units-at (c .before .before)))
+    (simp (size-fits (size-at (d .before .before .before .before)), over-at (d .before .before), below-at d, units-at (c .before .before)))
 
 pub checkpoint-fits-spec : {M : Type 1} → statement M
 checkpoint-fits-spec =
@@ -100,8 +98,9 @@ checkpoint-fits-spec =
     enum-told
     returns
     enum-told-2
-    row-codes-requires
+    shr-if1
     returns-2
+    shr-if2
     returns-3
     units-fit-requires
     returns-4

@@ -1,7 +1,7 @@
 -- `solver::numbers::table_size` meets its contract: 4^w is 2 to the 2 w, and h times it fits.
 -- Assumes nothing.
 use borrow.Author.Needs.{needs}
-use Rattle.solver.proofs.Powers.{table-le, table-shift}
+use Rattle.score_table.proofs.Powers.{table-le, table-shift}
 use Rattle.solver.proofs.numbers.table_size.Statement.{statement}
 use Rattle.solver.proofs.numbers.table_size.Tie as tie
 

@@ -2,10 +2,11 @@
 -- Assumes nothing.
 use mathlib.Core.Logic.{⊎-elim}
 use native.Mathlib.Omega.{arith}
-use mathlib.Core.Path.{ap}
+use mathlib.Core.Path.{ap, _∙_}
 use Rattle.solver.specs.Inner.{hasEnded}
-use Rattle.solver.proofs.Powers.{table-le}
-use Rattle.solver.proofs.UnitLaws.{lent-fills, lent-chooses}
+use Rattle.score_table.proofs.Powers.{table-le}
+use Rattle.solver.proofs.UnitLaws.{lent-memory, lent-early, lent-chooses}
+use Rattle.solver.proofs.Agreement.{filled}
 use Rattle.solver.proofs.Steps.{filling-on, filling-over, moves-fill, moves-choose, moves-ended}
 use borrow.Author.Needs.{needs}
 use Rattle.solver.proofs.working.unit.Statement.{statement}
@@ -15,16 +16,17 @@ enum-told : tie.Need-enum-told
 enum-told c = search needs
 
 fill-requires : tie.Need-fill-requires
-fill-requires c κs = let s = c .before .before .before .before .before .before in (s .pre .0, lent-fills (s .pre .1) (c .before .enum-told .given .1))
+fill-requires c κs = search needs
 
+-- while the job fills, its memory fits and its units are below the table's entries
 add-if1 : tie.Need-add-if1
-add-if1 c = let s = c .before .before .before .before .before .before .before .before .before in let f = lent-fills (s .pre .1) (c .before .before .before .before .enum-told .given .1) in omega (arith, f .early, table-le (f .narrow) (f .low))
+add-if1 c = let s = c .before .before .before .before .before .before .before .before .before in let M = lent-memory (s .pre .1) in omega (arith, lent-early (s .pre .1) (c .before .before .before .before .enum-told .given .1), table-le (M .narrow) (M .low))
 
 table-size-requires : tie.Need-table-size-requires
-table-size-requires c κs = let s = c .before .before .before .before .before .before .before .before .before in let f = lent-fills (s .pre .1) (c .before .before .before .before .enum-told .given .1) in (f .narrow, f .low)
+table-size-requires c κs = let M = lent-memory (c .before .before .before .before .before .before .before .before .before .pre .1) in (M .narrow, M .low)
 
 add-t18 : tie.Need-add-t18
-add-t18 c = let s = c .before .before .before .before .before .before .before .before .before .before .before in let f = lent-fills (s .pre .1) (c .before .before .before .before .before .before .enum-told .given .1) in omega (arith, f .early, table-le (f .narrow) (f .low))
+add-t18 c = let s = c .before .before .before .before .before .before .before .before .before .before .before in let M = lent-memory (s .pre .1) in omega (arith, lent-early (s .pre .1) (c .before .before .before .before .before .before .enum-told .given .1), table-le (M .narrow) (M .low))
 
 enum-known-stage : tie.Need-enum-known-stage
 enum-known-stage c = search needs
@@ -46,7 +48,9 @@ returns c =
     moves-fill _ _ _ _ (c .before .before .before .before .before .before .enum-told .given .1) _
     (⊎-elim (λ x. filling-on _ _ _ _ (x .0 .taken) (c .before .table-size .ensures .0) _ (x .1))
     (λ x. filling-over _ _ _ _ (x .0 .left) (c .before .table-size .ensures .0) _ (x .1)) (c .if1 .came))
-    _ (c .before .before .before .before .fill .ensures)
+    _ (c .before .before .before .before .fill .ensures
+    ∙ filled _ (c .before .before .before .before .before .before .before .before .before .before .before .pre .0) _ _ _ _ (lent-memory (c .before .before .before .before .before .before .before .before .before .before .before .pre .1)) _
+    (lent-early (c .before .before .before .before .before .before .before .before .before .before .before .pre .1) (c .before .before .before .before .before .before .enum-told .given .1)))
 
 same-length-2 : tie.Need-same-length-2
 same-length-2 c = search needs

@@ -1,0 +1,4 @@
+pub mod Rows
+pub mod ScoreTable
+pub mod Inner
+pub mod Calls

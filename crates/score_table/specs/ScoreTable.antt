@@ -1,0 +1,78 @@
+-- Document 01, "The score table" and the choice of a row: row elimination over the rows of a grid. The rules of an entry and of a choice over
+-- whatever numbers the table holds are `entry` and `choose` of crate `elimination`; here stand what they are asked of, where entries lie, and
+-- which of them a unit writes. `next` is the next-state table of the 512 patterns.
+-- Assumes nothing.
+use mathlib.Core.Bool.{Bool, false, _&&_}
+use mathlib.Core.List.{List}
+use Prim.Native.Nat.{ℕ, suc, _+_, _*_, _-_, _/_, _%_, _^_}
+use lib.ListN.{getD}
+use Rattle.elimination.specs.Candidates.{Choice}
+use Rattle.elimination.specs.Kind.{Kind, choose, entry}
+use Rattle.elimination.specs.Sums.{SumRules, sumKind}
+use Rattle.life.specs.Rows.{agree}
+use Rattle.score_table.specs.Rows.{rowWorth, rowKept}
+
+-- What is asked: the greatest number of free live cells, among equals the smallest row; 65,535 stands for none, and a number read above 600
+-- counts as none. Row c may stand below a over b where the three agree and c keeps the givens of its row, which start at `givensAt k` with k rows
+-- after it; the board may end below a over b where (a, b, 0) and (b, 0, 0) agree. `agreed` is whether three rows agree.
+abbrev pub rules : (ℕ → ℕ → ℕ → Bool) → ℕ → (ℕ → ℕ) → List ℕ → SumRules
+rules agreed w givensAt givens = record {
+  least = false;
+  greaterFirst = false;
+  absent = 65535;
+  limit = 600;
+  worth = λ k c. rowWorth w givens (givensAt k) c;
+  codes = 2 ^ w;
+  may = λ k a b c. agreed a b c && rowKept w givens (givensAt k) c;
+  mayEnd = λ a b. agreed a b 0 && agreed b 0 0;
+}
+
+-- rows agree by `next`
+abbrev pub kindBy : (ℕ → ℕ) → ℕ → (ℕ → ℕ) → List ℕ → Kind ℕ
+kindBy next w givensAt givens = sumKind (rules (agree next w) w givensAt givens)
+
+-- of a grid of h rows: the row with k rows after it has h - k - 1 rows above it
+abbrev pub kindOf : (ℕ → ℕ) → ℕ → ℕ → List ℕ → Kind ℕ
+kindOf next w h givens = kindBy next w (λ k. (h - suc k) * w) givens
+
+-- ---- where entries lie
+-- the entries of the table, which are the units of filling: h × 4^w
+unfoldable pub tableSize : ℕ → ℕ → ℕ
+tableSize w h = h * 4 ^ w
+
+-- the place of entry (i, a, b), counted from 0
+unfoldable pub placeOf : ℕ → ℕ → ℕ → ℕ → ℕ
+placeOf w i a b = (i - 1) * 4 ^ w + a * 2 ^ w + b
+
+-- the numbers that a table holds from a place on
+abbrev pub readsFrom : List ℕ → ℕ → ℕ → ℕ
+readsFrom table first c = getD table (first + c) 0
+
+-- the numbers that it holds for the rows c below b in row i: entries (i, b, c)
+abbrev pub readsOf : ℕ → List ℕ → ℕ → ℕ → ℕ → ℕ
+readsOf w table i b c = getD table (placeOf w i b c) 0
+
+-- ---- filling
+-- unit u of filling writes entry (h - rowsAfter, rowA, rowB): layer h first, then upward; in a layer a rises, then b
+abbrev pub rowsAfter : ℕ → ℕ → ℕ
+rowsAfter w u = u / 4 ^ w
+
+abbrev pub rowA : ℕ → ℕ → ℕ
+rowA w u = u % 4 ^ w / 2 ^ w
+
+abbrev pub rowB : ℕ → ℕ → ℕ
+rowB w u = u % 4 ^ w % 2 ^ w
+
+-- the place that it writes
+unfoldable pub unitPlace : ℕ → ℕ → ℕ → ℕ
+unitPlace w h u = placeOf w (h - rowsAfter w u) (rowA w u) (rowB w u)
+
+-- the number that it writes: the rule of an entry, over what the table holds in the layer below
+unfoldable pub unitEntry : (ℕ → ℕ) → ℕ → ℕ → List ℕ → List ℕ → ℕ → ℕ
+unitEntry next w h givens table u =
+    entry (kindOf next w h givens) (rowsAfter w u) (rowA w u) (rowB w u) (readsOf w table (h - rowsAfter w u + 1) (rowB w u))
+
+-- ---- choosing
+-- the choice of the row with r rows above it, the last two of them `above` and `last`: the rule of a choice over entries (r + 1, last, c)
+unfoldable pub rowChoice : (ℕ → ℕ) → ℕ → ℕ → List ℕ → List ℕ → ℕ → ℕ → ℕ → Choice ℕ
+rowChoice next w h givens table r above last = choose (kindOf next w h givens) (h - suc r) above last (readsOf w table (r + 1) last)
