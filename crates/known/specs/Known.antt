@@ -7,7 +7,7 @@ use lib.ListN.{replicate}
 use Rattle.board.specs.Answers.{Answer, gives}
 use Rattle.rule.specs.Rule.{conway}
 use Rattle.life.specs.Calls.{judgeRule, still, changes}
-use Rattle.plaintext.specs.Letters.{LF, bigO}
+use Rattle.writer.specs.Letters.{LF, bigO}
 use Rattle.plaintext.specs.Reading.{readRule}
 use Rattle.score_table.specs.ScoreTable.{tableSize}
 use Rattle.solver.specs.Jobs.{start, finished, infeasible}

@@ -1,4 +1,4 @@
--- Each answer of text out and of text in, from the tests that led to it.
+-- Each answer of text in, from the tests that led to it.
 -- Assumes nothing.
 use mathlib.Core.Path.{_≡_, refl}
 use mathlib.Core.Option.{Option, none, some}
@@ -8,35 +8,18 @@ use borrow.Author.Tests.{le-leb, lt-leb}
 use lib.Dec.{leb}
 use lib.ListN.{length}
 use Rattle.board.specs.declared.Refusal.{Refusal}
-use Rattle.board.specs.declared.Refusal.the-variants.{BoardLength, Letter, ShortOutput}
+use Rattle.board.specs.declared.Refusal.the-variants.{BoardLength, Letter}
 use Rattle.board.specs.Answers.{Answer, gives, refusalSays, passed, _then_, refuseUnless}
 use Rattle.board.specs.Boards.{Sized}
-use Rattle.board.specs.Checks.{widthCheck, heightCheck, sizeCheck, boardCheck}
+use Rattle.board.specs.Checks.{widthCheck, heightCheck, sizeCheck}
 use Rattle.board.proofs.Answers.{refused-keeps}
 use Rattle.board.proofs.Checks.{sized}
 use Rattle.plaintext.specs.declared.Read as I
-use Rattle.plaintext.specs.declared.Written as O
 use Rattle.plaintext.specs.declared.scan.Measured.the-variants.{Bad, Size}
 use Rattle.plaintext.specs.Reading.{judged, firstBad, rowsOf, widthOf, sizeRule, readRule, boardOver, ReadsText}
-use Rattle.plaintext.specs.Writing.{textLength, writeRule, textOver, WritesText}
 use Rattle.plaintext.specs.Scanning.{measureOf}
 use Rattle.plaintext.proofs.Lines.{zero-ne-one}
 
--- ---- text out
-module _ (w h : ℕ) (cells text : List ℕ) where
-  pub write-refused : (r : Refusal) → refusalSays r ≡ writeRule w h cells (length text) → WritesText w h cells text text (O.Written.Refused r)
-  write-refused r e = record { answers = e; leaves = refused-keeps r e _ _ }
-
-  module _ (board : boardCheck w h cells ≡ passed) where
-    pub write-short : length text < textLength w h → WritesText w h cells text text (O.Written.Refused ShortOutput)
-    unfolding writeRule
-    write-short l = write-refused ShortOutput (rw (board, lt-leb _ _ l))
-
-    pub write-done : textLength w h ≤ length text → WritesText w h cells text (textOver w h cells text) (O.Written.Length (textLength w h))
-    unfolding writeRule
-    write-done l = record { answers = rw (board, le-leb _ _ l); leaves = rw (board, le-leb _ _ l) }
-
--- ---- text in
 -- what the measure of a text says of its bad bytes and its rows
 pub measured-bad : (o : Option ℕ) (rows : List (List ℕ)) (p : ℕ) → Bad p ≡ measureOf o rows → o ≡ some p
 measured-bad none rows p e = let z : _≡_ {A = ℕ} 0 1 = cc in absurd (zero-ne-one z)

@@ -9,10 +9,10 @@ use native.Mathlib.Omega.{arith}
 use lib.Dec.{eqb}
 use lib.ListN.{length, getD, take, drop, replicate}
 use Rattle.board.specs.Search.{firstNot}
-use Rattle.plaintext.specs.Letters.{bigO, cellOf}
+use Rattle.writer.specs.Letters.{bigO, cellOf}
+use Rattle.writer.specs.Writing.{boardRows}
 use Rattle.plaintext.specs.Lines.{Line}
 use Rattle.plaintext.specs.Reading.{Judged, comment, isComment, withoutCR, letterAt, judgeRow, judge, judgeLines, rowsOf, filled, cellsOf}
-use Rattle.plaintext.specs.Writing.{boardRows}
 
 abbrev pub AllCells : List ℕ → Type 0
 AllCells [] = Unit {0}

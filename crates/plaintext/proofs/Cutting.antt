@@ -9,7 +9,7 @@ use native.Mathlib.Nat.{zero-lt-suc}
 use borrow.Author.Tests.{eqb-true, eqb-false}
 use lib.Dec.{eqb}
 use lib.ListN.{length}
-use Rattle.plaintext.specs.Letters.{LF}
+use Rattle.writer.specs.Letters.{LF}
 use Rattle.plaintext.specs.Lines.{Line, emptyLine, inFront, linesOf}
 use Rattle.plaintext.specs.Theorems.{joined, WellCut, CutIntoLines}
 

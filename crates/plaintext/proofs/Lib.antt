@@ -1,7 +1,6 @@
 -- The laws of this crate that belong to no one function, and the proofs of its theorems.
-pub mod Over
 pub mod Stops
-pub mod BoardRows
+pub mod RowCells
 pub mod Lines
 pub mod Scans
 pub mod Answers

@@ -12,8 +12,8 @@ use lib.Dec.{ltb, eqb, leb·zero, leb·suc-suc}
 use lib.ListN.{length, getD, take, drop, length-map, length-drop, drop-of-length-le, List·getD-eq-default}
 use lib.Seq.{drop-drop, take-length, length-take-le}
 use Rattle.board.specs.Search.{firstNot}
+use Rattle.writer.specs.Letters.{LF, cellOf}
 use Rattle.plaintext.specs.declared.line.Kind.the-variants.{Comment, Row, Bad}
-use Rattle.plaintext.specs.Letters.{LF, cellOf}
 use Rattle.plaintext.specs.Lines.{Line, inFront, linesOf}
 use Rattle.plaintext.specs.Reading.{Judged, comment, row, bad, isComment, endsInCR, withoutCR, letterAt, judgeRow, judge, judgeLines, judged}
 use Rattle.plaintext.specs.Scanning.{firstNotOr, noLFAt, lineBetween, EndsAt, kindOf}

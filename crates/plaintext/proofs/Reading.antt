@@ -19,12 +19,12 @@ use Rattle.board.specs.Checks.{widthCheck, heightCheck}
 use Rattle.board.proofs.Search.{Searched, searched, fails-at}
 use Rattle.board.proofs.Answers.{then-gives}
 use Rattle.board.proofs.Checks.{board-passes}
-use Rattle.plaintext.specs.Letters.{LF, isLetter}
+use Rattle.writer.specs.Letters.{LF, isLetter}
 use Rattle.plaintext.specs.Lines.{Line, linesOf}
 use Rattle.plaintext.specs.Reading.{Judged, comment, row, bad, isComment, withoutCR, letterAt, judgeRow, judge, judgeLines, judged, firstBad, rowsOf, widthOf, cellsOf, sizeRule, readRule, boardOver, ReadsText}
 use Rattle.plaintext.specs.declared.Read.the-variants.{Board}
 use Rattle.plaintext.specs.Theorems.{joined, WellCut, ReadsABoard, BadByte}
-use Rattle.plaintext.proofs.BoardRows.{cells-long}
+use Rattle.plaintext.proofs.RowCells.{cells-long}
 use Rattle.plaintext.proofs.Lines.{zero-ne-one, row-first}
 use Rattle.plaintext.proofs.Answers.{checked-size}
 use Rattle.plaintext.proofs.Cells.{all-at, text-all, cells-all}

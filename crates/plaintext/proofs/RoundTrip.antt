@@ -17,14 +17,14 @@ use Rattle.board.specs.Checks.{widthCheck, heightCheck, sizeCheck, boardCheck}
 use Rattle.board.proofs.Search.{none-of}
 use Rattle.board.proofs.Answers.{refuses-none, then-gives}
 use Rattle.board.proofs.Checks.{size-passes, boarded}
+use Rattle.writer.specs.declared.Written as O
+use Rattle.writer.specs.Letters.{CR, bang, dot, bigO, isLetter, cellOf, letterOf}
+use Rattle.writer.specs.Writing.{boardRows, rowText, boardText, textLength, writeRule, textOver, WritesText}
+use Rattle.writer.proofs.BoardRows.{rest-long, board-text-long}
 use Rattle.plaintext.specs.declared.Read as I
-use Rattle.plaintext.specs.declared.Written as O
-use Rattle.plaintext.specs.Letters.{CR, bang, dot, bigO, isLetter, cellOf, letterOf}
 use Rattle.plaintext.specs.Lines.{Line, linesOf}
 use Rattle.plaintext.specs.Reading.{row, isComment, letterAt, judge, judgeLines, judged, firstBad, rowsOf, widthOf, filled, cellsOf, sizeRule, readRule, boardOver, readSays}
-use Rattle.plaintext.specs.Writing.{boardRows, rowText, boardText, textLength, writeRule, textOver, WritesText}
-use Rattle.plaintext.specs.Theorems.{TextHasLength, AcceptedAsItIs, RoundTrip}
-use Rattle.plaintext.proofs.BoardRows.{rest-long, board-text-long}
+use Rattle.plaintext.specs.Theorems.{AcceptedAsItIs, RoundTrip}
 use Rattle.plaintext.proofs.Cells.{AllCells, AllRows, all-of, board-all}
 use Rattle.plaintext.proofs.Cutting.{added}
 
@@ -122,9 +122,6 @@ module _ (w : ℕ) where
   board-cells zero [] e = refl
   board-cells zero (x ∷ b) e = let z = mul-zero w in absurd (omega arith)
   board-cells (suc h) b e = let s = rest-long w h b e in rw (whole-row b (s .0), board-cells h (drop w b) (s .1)) (take-append-drop w b)
-
-pub text-has-length : TextHasLength
-text-has-length = board-text-long
 
 -- ---- a board that text out took, and what it wrote
 module _ (w h : ℕ) (board text text′ : List ℕ) (n : ℕ) (c : WritesText w h board text text′ (O.Written.Length n)) where

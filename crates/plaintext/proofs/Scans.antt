@@ -10,14 +10,14 @@ use native.Mathlib.Omega.{arith}
 use borrow.Rule.Slice.PartMut.{putMid}
 use lib.ListN.{length, take, drop, length-map, length-drop}
 use lib.Seq.{take-take, length-take-le}
+use Rattle.writer.specs.Letters.{cellOf}
+use Rattle.writer.proofs.Over.{over, over-all, lent-block, block-rest}
 use Rattle.plaintext.specs.declared.line.Kind.{Kind}
 use Rattle.plaintext.specs.declared.line.Kind.the-variants.{Comment, Row, Bad}
 use Rattle.plaintext.specs.declared.scan.Measured.the-variants.{Size}
-use Rattle.plaintext.specs.Letters.{cellOf}
 use Rattle.plaintext.specs.Reading.{Judged, comment, row, bad, judge, judged, firstBad, rowsOf, widthOf, filled, cellsOf, boardOver}
 use Rattle.plaintext.specs.Scanning.{lineBetween, EndsAt, kindOf, measureOf}
-use Rattle.plaintext.proofs.Over.{over, over-all, lent-block, block-rest}
-use Rattle.plaintext.proofs.BoardRows.{filled-long, cells-more, cells-long}
+use Rattle.plaintext.proofs.RowCells.{filled-long, cells-more, cells-long}
 use Rattle.plaintext.proofs.Lines.{judged-none, line-long, judged-more, kind-comment, kind-bad, kind-row}
 
 -- ---- one line, judged by its kind, and the lines after it

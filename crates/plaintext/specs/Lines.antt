@@ -4,7 +4,7 @@ use mathlib.Core.Bool.{Bool, true, false, cond}
 use mathlib.Core.List.{List, [], _∷_}
 use Prim.Native.Nat.{ℕ}
 use lib.Dec.{eqb}
-use Rattle.plaintext.specs.Letters.{LF}
+use Rattle.writer.specs.Letters.{LF}
 
 -- a line: its bytes without its LF, and whether an LF ends it
 pub record Line : Type 0 where

@@ -11,9 +11,9 @@ use lib.ListN.{length, getD, take, drop, replicate}
 use Rattle.board.specs.Search.{firstNot}
 use Rattle.board.specs.Answers.{Answer, gives, refusalSays, _then_, refuseUnless, refuseAt, after}
 use Rattle.board.specs.Checks.{widthCheck, heightCheck}
+use Rattle.writer.specs.Letters.{CR, bang, isLetter, cellOf}
 use Rattle.plaintext.specs.declared.Read.{Read}
 use Rattle.plaintext.specs.declared.Read.the-variants.{Board, Refused}
-use Rattle.plaintext.specs.Letters.{CR, bang, isLetter, cellOf}
 use Rattle.plaintext.specs.Lines.{Line, linesOf}
 
 -- ---- a line is judged

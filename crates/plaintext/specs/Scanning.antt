@@ -9,10 +9,10 @@ use Prim.Native.Nat.{ℕ, _+_, _-_, _≤_}
 use lib.Dec.{eqb, ltb}
 use lib.ListN.{length, getD, take, drop}
 use Rattle.board.specs.Search.{firstNot}
+use Rattle.writer.specs.Letters.{LF}
 use Rattle.plaintext.specs.declared.line.Kind.{Kind}
 use Rattle.plaintext.specs.declared.line.Kind.the-variants.{Comment, Row, Bad}
 use Rattle.plaintext.specs.declared.scan.Measured as M
-use Rattle.plaintext.specs.Letters.{LF}
 use Rattle.plaintext.specs.Lines.{Line, linesOf}
 use Rattle.plaintext.specs.Reading.{Judged, comment, row, bad, widthOf}
 

@@ -9,13 +9,13 @@ use lib.ListN.{length, getD, take, drop, replicate}
 use Rattle.board.specs.declared.Refusal.the-variants.{Letter}
 use Rattle.board.specs.Answers.{passed}
 use Rattle.board.specs.Checks.{boardCheck}
+use Rattle.writer.specs.declared.Written.the-variants.{Length}
+use Rattle.writer.specs.Letters.{LF, isLetter}
+use Rattle.writer.specs.Writing.{boardRows, WritesText}
 use Rattle.plaintext.specs.declared.Read.{Read}
 use Rattle.plaintext.specs.declared.Read.the-variants.{Board, Refused}
-use Rattle.plaintext.specs.declared.Written.the-variants.{Length}
-use Rattle.plaintext.specs.Letters.{LF, isLetter}
 use Rattle.plaintext.specs.Lines.{Line, linesOf}
 use Rattle.plaintext.specs.Reading.{row, judged, ReadsText}
-use Rattle.plaintext.specs.Writing.{boardRows, boardText, textLength, WritesText}
 
 -- lines joined, each with its LF where one ends it
 unfoldable pub joined : List Line → List ℕ
@@ -41,10 +41,6 @@ abbrev pub BadByte : Type 0
 BadByte = (bytes : List ℕ) (at : ℕ) (cells cells′ : List ℕ) (p : ℕ)
     → ReadsText bytes at cells cells′ (Refused (Letter p))
     → (at ≤ p) × (p < length bytes) × (isLetter (getD bytes p 0) ≡ false) × (getD bytes p 0 ≡ LF → ⊥)
-
--- the length that text out answers is that of the board's text
-abbrev pub TextHasLength : Type 0
-TextHasLength = (w h : ℕ) (board : List ℕ) → length board ≡ w * h → length (boardText w h board) ≡ textLength w h
 
 -- what text out wrote, behind any bytes, is accepted as it is: each of its lines is a row of the board, and none needs filling
 abbrev pub AcceptedAsItIs : Type 0

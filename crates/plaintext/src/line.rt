@@ -2,7 +2,7 @@
 ghost use mathlib.Core.Path.{_≡_};
 ghost use Prim.Native.Nat.{_<_, _≤_};
 ghost use lib.ListN.{length};
-ghost use Rattle.plaintext.specs.Letters.{isLetter};
+ghost use Rattle.writer.specs.Letters.{isLetter};
 ghost use Rattle.plaintext.specs.Reading.{isComment, withoutCR, letterAt, judge};
 ghost use Rattle.plaintext.specs.Scanning.{firstNotOr, noLFAt, lineBetween, EndsAt, kindOf};
 

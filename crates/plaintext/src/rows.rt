@@ -1,23 +1,10 @@
-// Rows of cells and rows of letters.
+// Rows of letters as rows of cells.
 ghost use mathlib.Core.Path.{_≡_};
 ghost use mathlib.Core.List.{_++_, map};
-ghost use Prim.Native.Nat.{_+_, _*_, _<_, _≤_};
+ghost use Prim.Native.Nat.{_≤_};
 ghost use lib.ListN.{length, drop};
-ghost use Rattle.plaintext.specs.Letters.{cellOf, letterOf};
+ghost use Rattle.writer.specs.Letters.{cellOf};
 ghost use Rattle.plaintext.specs.Reading.{filled};
-ghost use Rattle.plaintext.specs.Writing.{rowText, textLength, textOver};
-
-// Writes h rows of w cells as text.
-pub fn write_rows(w: usize, h: usize, cells: &[u8], text: &mut [u8])
-    requires { ⌜ (w ≤ 10) × (h ≤ 60) × (length (now cells) ≡ w * h) × (textLength w h ≤ length (now text)) ⌝ }
-    ensures { λ _. ⌜ now (text .exit) ≡ textOver w h (now (cells .entry)) (now (text .entry)) ⌝ }
-{
-    for j in 0..h {
-        let from = j * w;
-        let to = j * (w + 1);
-        write_row(&cells[from..from + w], &mut text[to..]);
-    }
-}
 
 // Writes a row's cells at the start of the cells, filled with dead cells to width w.
 pub fn fill_row(w: usize, row: &[u8], cells: &mut [u8])
@@ -29,25 +16,6 @@ pub fn fill_row(w: usize, row: &[u8], cells: &mut [u8])
         cells[k] = if k < row.len() { cell(row[k]) } else { 0 };
         k += 1;
     }
-}
-
-// Writes a row's letters and LF at the start of the text.
-fn write_row(row: &[u8], text: &mut [u8])
-    requires { ⌜ length (now row) < length (now text) ⌝ }
-    ensures { λ _. ⌜ now (text .exit) ≡ rowText (now (row .entry)) ++ drop (length (now (row .entry)) + 1) (now (text .entry)) ⌝ }
-{
-    let n = row.len();
-    for k in 0..n {
-        text[k] = letter(row[k]);
-    }
-    text[n] = b'\n';
-}
-
-// A cell's letter.
-fn letter(cell: u8) -> u8
-    ensures { λ r. ⌜ r ≡ letterOf cell ⌝ }
-{
-    if cell == 0 { b'.' } else { b'O' }
 }
 
 // A letter's cell.

@@ -1,8 +1,8 @@
 // What the groups share: calls whose answers are plain numbers, parts of buffers, and counts.
 use board::Refusal;
 use plaintext::Read;
-use plaintext::Written;
 use std::num::wrapping_add_u64;
+use writer::Written;
 
 // What every buffer holds before a call.
 pub const LEFT: u8 = 9;
@@ -60,7 +60,7 @@ pub fn write(w: usize, h: usize, board: &[u8], text: &mut [u8], from: usize, to:
     if text.len() < to {
         return refused(Refusal::LongText);
     }
-    match plaintext::write(w, h, board, &mut text[from..to]) {
+    match writer::write(w, h, board, &mut text[from..to]) {
         Written::Refused(r) => refused(r),
         Written::Length(length) => Outcome {
             number: 0,

@@ -11,10 +11,10 @@ use Rattle.board.specs.Answers.{gives}
 use Rattle.board.specs.Boards.{Sized, Board}
 use Rattle.board.proofs.Answers.{refuses-none}
 use Rattle.board.proofs.Checks.{board-passes}
-use Rattle.plaintext.specs.Writing.{textLength, textOver, writeRule, writtenSays, WritesText}
+use Rattle.writer.specs.Writing.{textLength, textOver, writeRule, writtenSays, WritesText}
 use Rattle.board.specs.declared.Refusal.{Refusal}
-use Rattle.plaintext.specs.declared.Written.{Written}
-use Rattle.plaintext.specs.declared.Written.the-variants.{Length, Refused}
+use Rattle.writer.specs.declared.Written.{Written}
+use Rattle.writer.specs.declared.Written.the-variants.{Length, Refused}
 
 -- the longest text: 60 rows of 10 letters and LF
 pub text-short : (w h : ℕ) → Sized w h → textLength w h ≤ 660

@@ -12,7 +12,7 @@ use Rattle.board.specs.Boards.{Board}
 use Rattle.board.specs.declared.Refusal.{Refusal}
 use Rattle.board.specs.Checks.{sizeCheck, givensCheck, lengthCheck}
 use Rattle.board.proofs.Answers.{refuses-none, then-gives, unless-gives}
-use Rattle.plaintext.specs.Writing.{textLength, textOver}
+use Rattle.writer.specs.Writing.{textLength, textOver}
 use Rattle.score_table.specs.ScoreTable.{tableSize}
 use Rattle.solver.specs.Jobs.{finished, infeasible}
 use Rattle.runner.specs.Solving.{memoryCheck, solveCheck, solvedSays, Ends, best, none, Comes, Solves}

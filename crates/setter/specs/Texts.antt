@@ -7,8 +7,8 @@ use Prim.Native.Nat.{ℕ, _*_, _≤_}
 use lib.Dec.{eqb, leb}
 use lib.ListN.{length, take}
 use Rattle.board.specs.Answers.{Answer, gives, refuses, refusalSays, _then_, refuseUnless}
+use Rattle.writer.specs.Writing.{textLength, textOver}
 use Rattle.plaintext.specs.Reading.{judged, rowsOf, widthOf, cellsOf, readRule}
-use Rattle.plaintext.specs.Writing.{textLength, textOver}
 use Rattle.solver.specs.Jobs.{finished, infeasible}
 use Rattle.runner.specs.Solving.{solveCheck, Comes}
 use Rattle.setter.specs.declared.Shown.{Shown}

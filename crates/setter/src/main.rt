@@ -3,13 +3,13 @@ ghost use mathlib.Core.Path.{_≡_};
 ghost use mathlib.Core.List.{map};
 ghost use lib.ListN.{length};
 ghost use Rattle.board.specs.Boards.{Board};
-ghost use Rattle.plaintext.specs.Writing.{textLength, textOver};
+ghost use Rattle.writer.specs.Writing.{textLength, textOver};
 ghost use Rattle.setter.specs.Texts.{givenOf, SolvesText, SolvesCells};
 ghost use Rattle.setter.specs.declared.Shown.the-variants.{Best};
 use board::Refusal;
 use plaintext::Read;
-use plaintext::Written;
 use runner::Solved;
+use writer::Written;
 
 // The longest text that is read.
 const LONGEST: usize = 4096;
@@ -110,7 +110,7 @@ fn show(w: usize, h: usize, board: &[u8], score: usize, output: &mut [u8]) -> Sh
     requires { ⌜ Board w h (now board) × (length (now output) ≡ 660) ⌝ }
     ensures { λ r. ⌜ (r ≡ Best score (textLength w h)) × (now (output .exit) ≡ textOver w h (now (board .entry)) (now (output .entry))) ⌝ }
 {
-    match plaintext::write(w, h, board, output) {
+    match writer::write(w, h, board, output) {
         Written::Length(letters) => Shown::Best { score, letters },
         Written::Refused(r) => Shown::Refused(r),
     }

@@ -7,7 +7,7 @@ use native.Mathlib.Omega.{arith}
 use borrow.Author.Needs.{needs}
 use lib.ListN.{length, length-set, getD, length-map, take, drop, drop-of-length-le, List·getD-map}
 use lib.Seq.{drop-cons, getD-at, length-take-le}
-use Rattle.plaintext.proofs.Over.{over, over-more, over-all}
+use Rattle.writer.proofs.Over.{over, over-more, over-all}
 use Rattle.setter.specs.Texts.{givenOf}
 use Rattle.setter.proofs.give_live.Statement.{statement}
 use Rattle.setter.proofs.give_live.Tie as tie

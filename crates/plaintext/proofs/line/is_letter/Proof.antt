@@ -1,7 +1,7 @@
 -- `plaintext::line::is_letter` meets its contract, by its tests.
 -- Assumes nothing.
 use borrow.Author.Tests.{eq-eqb, ne-eqb}
-use Rattle.plaintext.specs.Letters.{dot}
+use Rattle.writer.specs.Letters.{dot}
 use Rattle.plaintext.proofs.line.is_letter.Statement.{statement}
 use Rattle.plaintext.proofs.line.is_letter.Tie as tie
 

@@ -3,8 +3,8 @@
 use Prim.Native.Nat.{_+_}
 use native.Mathlib.Omega.{arith}
 use borrow.Author.Needs.{needs}
+use Rattle.writer.proofs.Over.{rest-whole}
 use Rattle.plaintext.specs.Scanning.{EndsAt}
-use Rattle.plaintext.proofs.Over.{rest-whole}
 use Rattle.plaintext.proofs.Lines.{line-ends}
 use Rattle.plaintext.proofs.line.line_end.Statement.{statement}
 use Rattle.plaintext.proofs.line.line_end.Tie as tie

@@ -9,7 +9,7 @@ use borrow.Author.Tests.{eq-eqb, ne-eqb}
 use lib.ListN.{length}
 use Rattle.board.specs.Search.{firstNot}
 use Rattle.board.proofs.Search.{none-yet, none-more}
-use Rattle.plaintext.specs.Letters.{LF}
+use Rattle.writer.specs.Letters.{LF}
 use Rattle.plaintext.specs.Scanning.{noLFAt}
 use Rattle.plaintext.proofs.Stops.{stops, runs-out}
 use Rattle.plaintext.proofs.line.line_length.Statement.{statement}

@@ -4,7 +4,7 @@ use mathlib.Core.Path.{sym, ap}
 use borrow.Author.Needs.{needs}
 use borrow.Author.Tests.{eq-eqb, ne-eqb, not-true, not-false}
 use lib.ListN.{length}
-use Rattle.plaintext.specs.Letters.{CR}
+use Rattle.writer.specs.Letters.{CR}
 use Rattle.plaintext.proofs.Lines.{empty-at, row-open, row-whole, row-cut}
 use Rattle.plaintext.proofs.line.row_length.Statement.{statement}
 use Rattle.plaintext.proofs.line.row_length.Tie as tie

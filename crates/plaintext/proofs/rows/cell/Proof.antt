@@ -1,7 +1,7 @@
 -- `plaintext::rows::cell` meets its contract, by its test.
 -- Assumes nothing.
 use borrow.Author.Tests.{eq-eqb, ne-eqb}
-use Rattle.plaintext.specs.Letters.{bigO}
+use Rattle.writer.specs.Letters.{bigO}
 use Rattle.plaintext.proofs.rows.cell.Statement.{statement}
 use Rattle.plaintext.proofs.rows.cell.Tie as tie
 

@@ -8,10 +8,10 @@ use Prim.Native.Nat.{_-_, _≤_}
 use native.Mathlib.Omega.{arith}
 use borrow.Author.Needs.{needs}
 use lib.ListN.{length, length-set, getD}
-use Rattle.plaintext.specs.Letters.{cellOf}
+use Rattle.writer.specs.Letters.{cellOf}
+use Rattle.writer.proofs.Over.{over, over-more, over-all}
 use Rattle.plaintext.specs.Reading.{filled}
-use Rattle.plaintext.proofs.Over.{over, over-more, over-all}
-use Rattle.plaintext.proofs.BoardRows.{filled-letters-long, filled-cell, filled-dead}
+use Rattle.plaintext.proofs.RowCells.{filled-letters-long, filled-cell, filled-dead}
 use Rattle.plaintext.proofs.rows.fill_row.Statement.{statement}
 use Rattle.plaintext.proofs.rows.fill_row.Tie as tie
 

@@ -10,10 +10,10 @@ use denote.Enum.Declared.{declared, tagOf}
 use borrow.Author.Needs.{needs}
 use borrow.Rule.Slice.PartMut.{same-len-mid}
 use lib.ListN.{length, take, drop, length-drop}
+use Rattle.writer.proofs.Over.{rest-whole}
 use Rattle.plaintext.specs.declared.line.Kind.the-variants.{Row}
 use Rattle.plaintext.specs.Reading.{judge}
 use Rattle.plaintext.specs.Scanning.{lineBetween, kindOf}
-use Rattle.plaintext.proofs.Over.{rest-whole}
 use Rattle.plaintext.proofs.Scans.{row-fits, Copied, copied-none, copied-end, copied-skip, row-narrow, row-room, copied-row}
 use Rattle.plaintext.proofs.line.Kind.{enum}
 use Rattle.plaintext.proofs.scan.fill.Statement.{statement}

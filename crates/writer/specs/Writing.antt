@@ -7,9 +7,9 @@ use lib.Dec.{leb}
 use lib.ListN.{length, take, drop}
 use Rattle.board.specs.Answers.{Answer, gives, refusalSays, _then_, refuseUnless, after}
 use Rattle.board.specs.Checks.{boardCheck}
-use Rattle.plaintext.specs.declared.Written.{Written}
-use Rattle.plaintext.specs.declared.Written.the-variants.{Length, Refused}
-use Rattle.plaintext.specs.Letters.{LF, letterOf}
+use Rattle.writer.specs.declared.Written.{Written}
+use Rattle.writer.specs.declared.Written.the-variants.{Length, Refused}
+use Rattle.writer.specs.Letters.{LF, letterOf}
 
 -- the rows of a board: h of them, w cells each
 unfoldable pub boardRows : ℕ → ℕ → List ℕ → List (List ℕ)

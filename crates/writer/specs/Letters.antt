@@ -1,4 +1,4 @@
--- Document 01, "Plaintext boards and the program": the bytes of the form, and the letters of cells.
+-- Document 01, "Plaintext boards and the program": the bytes of the form, and the letters of cells, for text out and text in.
 -- Assumes nothing.
 use mathlib.Core.Bool.{Bool, cond, _||_}
 use Prim.Native.Nat.{ℕ}

@@ -1,4 +1,4 @@
--- `plaintext::rows::write_row` meets its contract. The loop's invariant: the first k letters are written over the text. The measure: the
+-- `writer::rows::write_row` meets its contract. The loop's invariant: the first k letters are written over the text. The measure: the
 -- letters left.
 -- Assumes nothing.
 use mathlib.Core.Path.{_≡_, refl, sym, _∙_}
@@ -6,12 +6,12 @@ use Prim.Native.Nat.{_+_, _-_, _≤_}
 use native.Mathlib.Omega.{arith}
 use borrow.Author.Needs.{needs}
 use lib.ListN.{length, set, length-set, getD}
-use Rattle.plaintext.specs.Letters.{LF}
-use Rattle.plaintext.specs.Writing.{rowText}
-use Rattle.plaintext.proofs.Over.{over, over-more, over-all}
-use Rattle.plaintext.proofs.BoardRows.{text-long, text-letter, text-end}
-use Rattle.plaintext.proofs.rows.write_row.Statement.{statement}
-use Rattle.plaintext.proofs.rows.write_row.Tie as tie
+use Rattle.writer.specs.Letters.{LF}
+use Rattle.writer.specs.Writing.{rowText}
+use Rattle.writer.proofs.Over.{over, over-more, over-all}
+use Rattle.writer.proofs.BoardRows.{text-long, text-letter, text-end}
+use Rattle.writer.proofs.rows.write_row.Statement.{statement}
+use Rattle.writer.proofs.rows.write_row.Tie as tie
 
 abbrev Inv-loop : tie.InvT-loop
 Inv-loop row text₀ n k₀ text k = (k ≤ n) × (text ≡ over (rowText row) k text₀) × (length text ≡ length text₀)

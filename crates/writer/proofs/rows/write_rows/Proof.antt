@@ -1,4 +1,4 @@
--- `plaintext::rows::write_rows` meets its contract. The loop's invariant: the text of the first j rows is written over the text. The measure:
+-- `writer::rows::write_rows` meets its contract. The loop's invariant: the text of the first j rows is written over the text. The measure:
 -- the rows left.
 -- Assumes nothing.
 use mathlib.Core.Path.{_≡_, refl, _∙_}
@@ -8,11 +8,11 @@ use native.Mathlib.Omega.{arith}
 use borrow.Author.Needs.{needs}
 use borrow.Rule.Slice.PartMut.{same-len-mid}
 use lib.ListN.{length, length-drop}
-use Rattle.plaintext.specs.Writing.{boardText, textOver}
-use Rattle.plaintext.proofs.Over.{over, over-all, rest-whole}
-use Rattle.plaintext.proofs.BoardRows.{board-text-long, block-room, row-whole, row-long, row-written}
-use Rattle.plaintext.proofs.rows.write_rows.Statement.{statement}
-use Rattle.plaintext.proofs.rows.write_rows.Tie as tie
+use Rattle.writer.specs.Writing.{boardText, textOver}
+use Rattle.writer.proofs.Over.{over, over-all, rest-whole}
+use Rattle.writer.proofs.BoardRows.{board-text-long, block-room, row-whole, row-long, row-written}
+use Rattle.writer.proofs.rows.write_rows.Statement.{statement}
+use Rattle.writer.proofs.rows.write_rows.Tie as tie
 
 abbrev Inv-loop : tie.InvT-loop
 Inv-loop w h cells text₀ j₀ text j = (j ≤ h) × (text ≡ over (boardText w h cells) (j * (w + 1)) text₀) × (length text ≡ length text₀)

@@ -1,8 +1,8 @@
--- `plaintext::rows::letter` meets its contract, by its test.
+-- `writer::rows::letter` meets its contract, by its test.
 -- Assumes nothing.
 use borrow.Author.Tests.{eq-eqb, ne-eqb}
-use Rattle.plaintext.proofs.rows.letter.Statement.{statement}
-use Rattle.plaintext.proofs.rows.letter.Tie as tie
+use Rattle.writer.proofs.rows.letter.Statement.{statement}
+use Rattle.writer.proofs.rows.letter.Tie as tie
 
 returns : tie.Need-returns
 returns c = simp (eq-eqb _ 0 (c .if1 .taken))

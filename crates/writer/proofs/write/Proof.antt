@@ -1,4 +1,4 @@
--- `plaintext::write` meets its contract: each return is the answer that the tests before it lead to.
+-- `writer::write` meets its contract: each return is the answer that the tests before it lead to.
 -- Assumes nothing.
 use mathlib.Core.Path.{_≡_}
 use Prim.Native.Nat.{_+_, _*_, _≤_}
@@ -10,10 +10,10 @@ use Rattle.board.specs.Boards.{Board}
 use Rattle.board.specs.Checks.{boardCheck}
 use Rattle.board.proofs.Answers.{turned-away, let-through}
 use Rattle.board.proofs.Checks.{boarded}
-use Rattle.plaintext.specs.Writing.{writeRule}
-use Rattle.plaintext.proofs.Answers.{write-refused, write-short, write-done}
-use Rattle.plaintext.proofs.write.Statement.{statement}
-use Rattle.plaintext.proofs.write.Tie as tie
+use Rattle.writer.specs.Writing.{writeRule}
+use Rattle.writer.proofs.Answers.{write-refused, write-short, write-done}
+use Rattle.writer.proofs.write.Statement.{statement}
+use Rattle.writer.proofs.write.Tie as tie
 
 check-board-requires : tie.Need-check-board-requires
 check-board-requires c κs = search needs

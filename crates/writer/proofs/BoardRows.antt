@@ -1,18 +1,18 @@
--- Laws of rows: their text, their cells filled to a width, and the lengths of both.
+-- Laws of the rows of a board: their text, and the lengths of both.
 -- Assumes nothing.
 use mathlib.Core.Path.{_≡_, refl, sym, ap, _∙_}
 use mathlib.Core.List.{List, [], _∷_, _++_, map, flatMap}
 use Prim.Native.Nat.{ℕ, zero, suc, _+_, _*_, _-_, _<_, _≤_}
-use native.Mathlib.Nat.{not-suc-le-zero, le-of-suc-le-suc, mul-suc, suc-mul, mul-zero, zero-mul, mul-comm, mul-le-mul-right, sub-zero}
+use native.Mathlib.Nat.{not-suc-le-zero, le-of-suc-le-suc, mul-suc, suc-mul, zero-mul, mul-comm, mul-le-mul-right, sub-zero}
 use native.Mathlib.Numerals.{add-one}
 use native.Mathlib.Omega.{arith}
 use borrow.Rule.Slice.PartMut.{putMid}
-use lib.ListN.{length, getD, take, drop, replicate, length-append, length-map, length-drop, length-replicate, getD-replicate, List·getD-append}
-use lib.Seq.{drop-drop, drop-at, getD-append-add, getD-append-seam, length-take-le}
-use Rattle.plaintext.specs.Letters.{LF, cellOf, letterOf}
-use Rattle.plaintext.specs.Reading.{filled, widthOf, cellsOf}
-use Rattle.plaintext.specs.Writing.{boardRows, rowText, boardText, textLength}
-use Rattle.plaintext.proofs.Over.{over, lent-block}
+use lib.ListN.{length, getD, take, drop, length-append, length-map, length-drop, List·getD-append}
+use lib.Seq.{drop-drop, drop-at, getD-append-seam, length-take-le}
+use Rattle.writer.specs.Letters.{LF, letterOf}
+use Rattle.writer.specs.Writing.{boardRows, rowText, boardText, textLength}
+use Rattle.writer.specs.Theorems.{TextHasLength}
+use Rattle.writer.proofs.Over.{over, lent-block}
 
 map-at : (f : ℕ → ℕ) (l : List ℕ) (k : ℕ) → k < length l → getD (map f l) k 0 ≡ f (getD l k 0)
 map-at f [] k h = absurd (not-suc-le-zero h)
@@ -34,48 +34,11 @@ pub text-end : (r : List ℕ) → getD (rowText r) (length r) 0 ≡ LF
 unfolding rowText
 text-end r = rw (← length-map r letterOf) (getD-append-seam (map letterOf r) LF [] 0)
 
--- ---- a row's cells
-pub filled-long : (w : ℕ) (r : List ℕ) → length r ≤ w → length (filled w r) ≡ w
-unfolding filled
-filled-long w r h = rw (length-append, length-replicate {A = ℕ} (w - length r) 0) (omega arith)
-
--- of a row of letters
-pub filled-letters-long : (w : ℕ) (r : List ℕ) → length r ≤ w → length (filled w (map cellOf r)) ≡ w
-filled-letters-long w r h = filled-long w (map cellOf r) (rw (length-map r cellOf) h)
-
-pub filled-cell : (w : ℕ) (r : List ℕ) (k : ℕ) → k < length r → getD (filled w (map cellOf r)) k 0 ≡ cellOf (getD r k 0)
-unfolding filled
-filled-cell w r k h =
-    let g : k < length (map cellOf r) = rw (length-map r cellOf) h in
-    rw (List·getD-append (map cellOf r) (replicate (w - length (map cellOf r)) 0) 0 k g) (map-at cellOf r k h)
-
-pub filled-dead : (w : ℕ) (r : List ℕ) (k : ℕ) → length r ≤ k → k < w → getD (filled w (map cellOf r)) k 0 ≡ 0
-unfolding filled
-filled-dead w r k l h =
-    let m = map cellOf r in
-    let e : length m ≡ length r = length-map r cellOf in
-    let q : k ≡ length m + (k - length m) = omega arith in
-    let g : getD (m ++ replicate (w - length m) 0) (length m + (k - length m)) 0 ≡ 0
-    = getD-append-add m (replicate (w - length m) 0) (k - length m) 0 ∙ getD-replicate (w - length m) (k - length m) 0 0 (omega arith)
-    in rw (← q) at g
-
--- ---- many rows
--- the cells of rows that are no longer than w
-pub cells-more : (w : ℕ) (r : List ℕ) (rs : List (List ℕ)) → cellsOf w (r ∷ rs) ≡ filled w r ++ cellsOf w rs
-unfolding cellsOf flatMap
-cells-more w r rs = refl
-
-pub cells-long : (w : ℕ) (rs : List (List ℕ)) → widthOf rs ≤ w → length (cellsOf w rs) ≡ w * length rs
-unfolding cellsOf flatMap widthOf
-cells-long w [] h = sym (mul-zero w)
-cells-long w (r ∷ rs) h =
-    rw (length-append, filled-long w r (omega arith), cells-long w rs (omega arith), mul-suc w (length rs)) (omega arith)
-
+-- ---- the rows of a board of width w, and their text
 -- block j of h blocks of n ends within them
 pub block-room : (j h n : ℕ) → j < h → j * n + n ≤ h * n
 block-room j h n l = rw (← suc-mul j n) (mul-le-mul-right n l)
 
--- ---- the rows of a board of width w, and their text
 module _ (w : ℕ) where
   pub rest-long : (h : ℕ) (b : List ℕ) → length b ≡ w * suc h → (w ≤ length b) × (length (drop w b) ≡ w * h)
   rest-long h b e = let m = mul-suc w h in (omega arith, length-drop w b ∙ (let k : length b - w ≡ w * h = omega arith in k))
@@ -124,3 +87,6 @@ module _ (w : ℕ) where
         let s = text-from j (omega arith) ∙ rows-more x j l in
         rw (add-one j, suc-mul j (w + 1))
         (lent-block (boardText w h b) (rowText (take w x)) (boardText w (h - suc j) (drop w x)) k (w + 1) s m old text part r et (rw (q, n) at ep))
+
+pub text-has-length : TextHasLength
+text-has-length = board-text-long
