@@ -45,15 +45,23 @@ module _ (n m most w h : ℕ) (bytes : List ℕ) where
   bytes-pass : Bytes most w h bytes → (lengthCheck n w h bytes then bytesCheck m most bytes) ≡ passed
   bytes-pass b = rw (eq-eqb (length bytes) (w * h) (b .long), none-of (atMost most bytes) (length bytes) (λ k l. le-leb _ _ (b .states k l)))
 
+pub cells-of : (w h : ℕ) (cells : List ℕ) {vs : List ℕ} → cellsCheck w h cells ≡ gives vs → Bytes 1 w h cells
+unfolding cellsCheck
+cells-of w h cells e = bytes-of 5 11 1 w h cells e
+
+pub cells-pass : {w h : ℕ} {cells : List ℕ} → Bytes 1 w h cells → cellsCheck w h cells ≡ passed
+unfolding cellsCheck
+cells-pass {w} {h} {cells} b = bytes-pass 5 11 1 w h cells b
+
 pub boarded : (w h : ℕ) (cells : List ℕ) {vs : List ℕ} → boardCheck w h cells ≡ gives vs → Board w h cells
-unfolding boardCheck cellsCheck
+unfolding boardCheck
 boarded w h cells e =
     let p = then-gives (sizeCheck w h) (cellsCheck w h cells) e in
-    record { size = sized w h (p .0 .1); bytes = bytes-of 5 11 1 w h cells (p .1) }
+    record { size = sized w h (p .0 .1); bytes = cells-of w h cells (p .1) }
 
 pub board-passes : {w h : ℕ} {cells : List ℕ} → Board w h cells → boardCheck w h cells ≡ passed
-unfolding boardCheck cellsCheck
-board-passes {w} {h} {cells} b = rw (size-passes (b .size)) (bytes-pass 5 11 1 w h cells (b .bytes))
+unfolding boardCheck
+board-passes {w} {h} {cells} b = rw (size-passes (b .size)) (cells-pass (b .bytes))
 
 pub marks-of : (w h : ℕ) (marks : List ℕ) {vs : List ℕ} → givensCheck w h marks ≡ gives vs → Bytes 2 w h marks
 unfolding givensCheck

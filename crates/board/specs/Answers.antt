@@ -5,7 +5,7 @@ use mathlib.Core.Option.{Option, none, some}
 use mathlib.Core.List.{List, [], _∷_}
 use Prim.Native.Nat.{ℕ}
 use Rattle.board.specs.declared.Refusal.{Refusal}
-use Rattle.board.specs.declared.Refusal.the-variants.{Width, Height, GivensLength, Mark, BoardLength, ShortTable, Checkpoint, Letter, SpoiledTable, ShortOutput, Cell, LongText}
+use Rattle.board.specs.declared.Refusal.the-variants.{Width, Height, GivensLength, Mark, BoardLength, ShortTable, Checkpoint, Letter, SpoiledTable, ShortOutput, Cell, LongText, Rule}
 use Rattle.board.specs.declared.Check.{Check}
 use Rattle.board.specs.declared.Check.the-variants.{Passed, Refused}
 use Rattle.board.specs.declared.Place.{Place}
@@ -18,7 +18,7 @@ pub data Answer : Type 0 where
 
 -- ---- the table of refusals
 -- a refusal's number. The paper's words are Width, Height, Grid length, Mark, Board length, Short table, Ticket (`Checkpoint`), Letter,
--- Spoiled table, Short output, Cell, Long text
+-- Spoiled table, Short output, Cell, Long text, and Req 02's Rule
 abbrev pub numberOf : Refusal → ℕ
 numberOf Width = 1
 numberOf Height = 2
@@ -32,6 +32,7 @@ numberOf SpoiledTable = 9
 numberOf ShortOutput = 10
 numberOf (Cell place) = 11
 numberOf LongText = 12
+numberOf Rule = 13
 
 -- and its values: the first place, from 0, of a mark, a letter or a cell
 abbrev pub valuesOf : Refusal → List ℕ
@@ -47,6 +48,7 @@ valuesOf SpoiledTable = []
 valuesOf ShortOutput = []
 valuesOf (Cell place) = place ∷ []
 valuesOf LongText = []
+valuesOf Rule = []
 
 abbrev pub refusalSays : Refusal → Answer
 refusalSays r = refuses (numberOf r) (valuesOf r)

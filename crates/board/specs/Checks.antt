@@ -43,7 +43,7 @@ cellsCheck w h cells = lengthCheck 5 w h cells then bytesCheck 11 1 cells
 unfoldable pub givensCheck : ℕ → ℕ → List ℕ → Answer
 givensCheck w h marks = lengthCheck 3 w h marks then bytesCheck 4 2 marks
 
--- stepping, judging and text out begin with 1, 2, 5, 11
+-- text out begins with 1, 2, 5, 11
 unfoldable pub boardCheck : ℕ → ℕ → List ℕ → Answer
 boardCheck w h cells = sizeCheck w h then cellsCheck w h cells
 

@@ -8,7 +8,7 @@ ghost use Rattle.board.specs.Boards.{among};
 ghost use Rattle.board.specs.Checks.{widthCheck, heightCheck, sizeCheck, cellsCheck, boardCheck, givensCheck, atMost};
 ghost use Rattle.board.specs.Search.{firstNot};
 
-// Why a call is turned away, in the order of document 01's numbers, with the first wrong place where the table gives one.
+// Why a call is turned away, in the order of the documents' numbers, with the first wrong place where they give one.
 pub enum Refusal {
     Width,
     Height,
@@ -22,6 +22,7 @@ pub enum Refusal {
     ShortOutput,
     Cell(usize),
     LongText,
+    Rule,
 }
 
 // What a check comes to.
@@ -31,7 +32,7 @@ pub enum Check {
 }
 
 impl Refusal {
-    // The number of document 01's table.
+    // The number of document 01's table; 13 is Req 02's.
     pub fn number(self) -> u8
         ensures { λ r. ⌜ r ≡ numberOf self ⌝ }
     {
@@ -48,6 +49,7 @@ impl Refusal {
             Refusal::ShortOutput => 10,
             Refusal::Cell(_) => 11,
             Refusal::LongText => 12,
+            Refusal::Rule => 13,
         }
     }
 }
@@ -84,7 +86,20 @@ pub fn check_size(w: usize, h: usize) -> Check
     check_height(h)
 }
 
-// 1, 2, 5, 11: the size, then w × h cells, each 0 or 1.
+// 5, 11: w × h cells, each 0 or 1.
+pub fn check_cells(w: usize, h: usize, cells: &[u8]) -> Check
+    ensures { λ r. ⌜ checkSays r ≡ cellsCheck w h (now (cells .entry)) ⌝ }
+{
+    if !has_length(cells, w, h) {
+        return Check::Refused(Refusal::BoardLength);
+    }
+    match first_above(cells, 1) {
+        Place::At(i) => Check::Refused(Refusal::Cell(i)),
+        Place::Nowhere => Check::Passed,
+    }
+}
+
+// 1, 2, 5, 11: the size, then the cells.
 pub fn check_board(w: usize, h: usize, cells: &[u8]) -> Check
     ensures { λ r. ⌜ checkSays r ≡ boardCheck w h (now (cells .entry)) ⌝ }
 {
@@ -119,19 +134,6 @@ pub fn has_length(bytes: &[u8], w: usize, h: usize) -> bool
         return false;
     }
     n / w == h
-}
-
-// 5, 11: w × h cells, each 0 or 1.
-fn check_cells(w: usize, h: usize, cells: &[u8]) -> Check
-    ensures { λ r. ⌜ checkSays r ≡ cellsCheck w h (now (cells .entry)) ⌝ }
-{
-    if !has_length(cells, w, h) {
-        return Check::Refused(Refusal::BoardLength);
-    }
-    match first_above(cells, 1) {
-        Place::At(i) => Check::Refused(Refusal::Cell(i)),
-        Place::Nowhere => Check::Passed,
-    }
 }
 
 // Whether a number is one of 1 to a limit.

@@ -10,7 +10,7 @@ fn main() {
     let givens = [0u8; 4]; // 2 by 2, every cell free
     let mut table = [7u16; 32]; // 2 × 4^2 entries, with leftovers
     let mut board = [9u8; 4];
-    match solver::open(2, 2, &givens) {
+    match solver::open(rule::conway(), 2, 2, &givens) {
         Opened::Ready(job) => work_and_pause(job, &givens, &mut table, &mut board),
         Opened::Refused(r) => report::refusal(r),
     }
@@ -57,7 +57,9 @@ fn print_numbers(n: Checkpoint) {
     print_number(n.above);
     print_number(n.last);
     print_number(n.live);
-    report::line(b"", n.mark);
+    print_number(n.mark);
+    print_number(n.births);
+    report::line(b"", n.survivals);
 }
 
 fn print_number(n: usize) {

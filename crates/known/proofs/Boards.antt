@@ -3,13 +3,13 @@
 use mathlib.Core.Path.{refl}
 use Rattle.board.specs.Search.{firstNot, allBelow}
 use Rattle.board.specs.Sums.{total}
-use Rattle.board.specs.Checks.{sizeCheck, cellsCheck, givensCheck, boardCheck}
+use Rattle.board.specs.Checks.{sizeCheck, cellsCheck, givensCheck}
 use Rattle.elimination.specs.Candidates.{scan}
 use Rattle.elimination.specs.Kind.{choose, entry}
-use Rattle.rule.specs.Rule.{conway}
+use Rattle.rule.specs.Rule.{ruleCheck, gridCheck, nextUnder, conway}
 use Rattle.life.specs.Plane.{onPlane, around}
 use Rattle.life.specs.Rows.{cellOf, becomes, stepsTo}
-use Rattle.life.specs.Calls.{nextAt, keepsAt, judged, judgeRule}
+use Rattle.life.specs.Calls.{nextAt, keepsAt, lifeCheck, judged, judgeRule}
 use Rattle.plaintext.specs.Lines.{linesOf}
 use Rattle.plaintext.specs.Reading as Reading
 use Rattle.score_table.specs.Rows.{markKept, rowKept, cellWorth, rowWorth}
@@ -21,7 +21,7 @@ use Rattle.solver.specs.Calls.{worksOn, workOf}
 use Rattle.known.specs.Known.{solved, Known}
 
 pub known : Known
-unfolding firstNot allBelow total sizeCheck cellsCheck givensCheck boardCheck scan choose entry conway onPlane around cellOf becomes stepsTo nextAt keepsAt judged judgeRule linesOf Reading.judge Reading.judgeLines Reading.judged Reading.firstBad Reading.rowsOf Reading.widthOf Reading.sizeRule Reading.readRule markKept rowKept cellWorth rowWorth written placeOf tableSize unitsFit rowsChosen rowsFit checkpointFits jobFits workCheck unitPlace unitEntry rowChoice unitOf worksOn workOf solved
+unfolding firstNot allBelow total sizeCheck cellsCheck givensCheck scan choose entry ruleCheck gridCheck nextUnder conway onPlane around cellOf becomes stepsTo nextAt keepsAt lifeCheck judged judgeRule linesOf Reading.judge Reading.judgeLines Reading.judged Reading.firstBad Reading.rowsOf Reading.widthOf Reading.sizeRule Reading.readRule markKept rowKept cellWorth rowWorth written placeOf tableSize unitsFit rowsChosen rowsFit checkpointFits jobFits workCheck unitPlace unitEntry rowChoice unitOf worksOn workOf solved
 known = record {
   m1 = refl;
   m2 = refl;

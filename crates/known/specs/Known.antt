@@ -5,7 +5,7 @@ use mathlib.Core.List.{List, [], _∷_}
 use Prim.Native.Nat.{ℕ, _*_}
 use lib.ListN.{replicate}
 use Rattle.board.specs.Answers.{Answer, gives}
-use Rattle.rule.specs.Rule.{conway}
+use Rattle.rule.specs.Rule.{conwayRule, conway}
 use Rattle.life.specs.Calls.{judgeRule, still, changes}
 use Rattle.writer.specs.Letters.{LF, bigO}
 use Rattle.plaintext.specs.Reading.{readRule}
@@ -22,7 +22,7 @@ pub record Ending : Type 0 where
 -- one working call with more allowance than the job has units, over a table of 7s and a board of 9s
 unfoldable pub solved : ℕ → ℕ → List ℕ → Ending
 solved w h givens =
-    let r = workOf (start w h) givens (replicate (tableSize w h) 7) (replicate (w * h) 9) 200 in
+    let r = workOf (start conwayRule w h) givens (replicate (tableSize w h) 7) (replicate (w * h) 9) 200 in
     record { answer = r .answer; units = r .state .job .units; board = r .state .board }
 
 pub record Known : Type 0 where
@@ -39,9 +39,9 @@ pub record Known : Type 0 where
   -- width 3, height 2 free: rows 3, 3, 130 units
   pub m6 : solved 3 2 (0 ∷ 0 ∷ 0 ∷ 0 ∷ 0 ∷ 0 ∷ []) ≡ record { answer = finished 4; units = 130; board = 0 ∷ 1 ∷ 1 ∷ 0 ∷ 1 ∷ 1 ∷ [] }
   -- the 3 by 3 board of rows 3, 5, 6 is still
-  pub m7 : judgeRule conway 3 3 (0 ∷ 1 ∷ 1 ∷ 1 ∷ 0 ∷ 1 ∷ 1 ∷ 1 ∷ 0 ∷ []) ≡ still
+  pub m7 : judgeRule conwayRule 3 3 (0 ∷ 1 ∷ 1 ∷ 1 ∷ 0 ∷ 1 ∷ 1 ∷ 1 ∷ 0 ∷ []) ≡ still
   -- width 3, height 1, row 7 isn't still; first change at row 0, column 2
-  pub m8 : judgeRule conway 3 1 (1 ∷ 1 ∷ 1 ∷ []) ≡ changes 0 2
+  pub m8 : judgeRule conwayRule 3 1 (1 ∷ 1 ∷ 1 ∷ []) ≡ changes 0 2
   -- pattern 7 gives live, 16 and 511 dead
   pub m9 : (conway 7 ≡ 1) × (conway 16 ≡ 0) × (conway 511 ≡ 0)
   -- text O, LF, LF is 1 wide, 2 high

@@ -1,56 +1,47 @@
--- Life by its table is Life by the neighbour count: one test that is computed over the states of nine cells.
+-- A step by a rule's table is a step by the neighbour count: the digits of a pattern are its nine cells.
 -- Assumes nothing.
-use mathlib.Core.Path.{_≡_, refl}
-use mathlib.Core.Bool.{Bool, true, _&&_}
-use mathlib.Core.List.{List}
-use Prim.Native.Nat.{ℕ, zero, suc, _+_, _*_, _≤_}
-use native.Mathlib.Nat.{not-suc-le-zero, le-of-suc-le-suc}
-use borrow.Author.Tests.{eqb-true}
-use lib.Dec.{eqb}
+use mathlib.Core.Path.{_≡_, ap₂}
+use Prim.Native.Nat.{ℕ, _+_, _*_, _≤_}
+use native.Mathlib.Omega.{arith}
 use lib.IntN.{ℤ, sucℤ, predℤ}
-use Rattle.board.specs.Boards.{Board}
-use Rattle.rule.specs.Rule.{conway, nextState}
-use Rattle.life.specs.Plane.{onPlane, around, tableStep, lifeStep}
-use Rattle.board.proofs.Tests.{and-left, and-right}
-use Rattle.life.proofs.OnPlane.{plane-small}
+use Rattle.rule.specs.Rule.{digit, liveAround, stateUnder, nextUnder}
+use Rattle.rule.specs.declared.Rule.{Rule}
+use Rattle.life.specs.Plane.{Plane, neighbours, around, tableStep, stepUnder}
 
--- the test holds of a dead and of a live cell
-both : (ℕ → Bool) → Bool
-both f = f 0 && f 1
+-- nine cells, row by row
+module _ {a b c d e f g h i : ℕ} (pa : a ≤ 1) (pb : b ≤ 1) (pc : c ≤ 1) (pd : d ≤ 1) (pe : e ≤ 1) (pf : f ≤ 1) (pg : g ≤ 1) (ph : h ≤ 1) (pi : i ≤ 1) where
+  abbrev x : ℕ
+  x = 64 * (4 * a + 2 * b + c) + 8 * (4 * d + 2 * e + f) + (4 * g + 2 * h + i)
 
-both-at : (f : ℕ → Bool) → both f ≡ true → (x : ℕ) → x ≤ 1 → f x ≡ true
-unfolding both
-both-at f e zero l = and-left (f 0) (f 1) e
-both-at f e (suc zero) l = and-right (f 0) (f 1) e
-both-at f e (suc (suc x)) l = absurd (not-suc-le-zero (le-of-suc-le-suc l))
+  centre-is : digit x 16 ≡ e
+  centre-is = omega arith
 
--- the pattern of nine cells, row by row, has the rule's next state
-right : ℕ → ℕ → ℕ → ℕ → ℕ → ℕ → ℕ → ℕ → ℕ → Bool
-right a b c d e f g h i =
-    eqb (conway (64 * (4 * a + 2 * b + c) + 8 * (4 * d + 2 * e + f) + (4 * g + 2 * h + i))) (nextState e (a + b + c + d + f + g + h + i))
+  live-is : liveAround x ≡ a + b + c + d + f + g + h + i
+  live-is =
+      let qa : digit x 256 ≡ a = omega arith in
+      let qb : digit x 128 ≡ b = omega arith in
+      let qc : digit x 64 ≡ c = omega arith in
+      let qd : digit x 32 ≡ d = omega arith in
+      let qf : digit x 8 ≡ f = omega arith in
+      let qg : digit x 4 ≡ g = omega arith in
+      let qh : digit x 2 ≡ h = omega arith in
+      let qi : digit x 1 ≡ i = omega arith in
+      rw (qa, qb, qc, qd, qf, qg, qh, qi)
 
-all-right : both (λ a. both (λ b. both (λ c. both (λ d. both (λ e. both (λ f. both (λ g. both (λ h. both (λ i. right a b c d e f g h i))))))))) ≡ true
-unfolding both right conway
-all-right = refl
+-- on a plane of dead and live cells
+module _ (P : Plane) (small : (r c : ℤ) → P r c ≤ 1) (r c : ℤ) where
+  centre : digit (around P r c) 16 ≡ P r c
+  unfolding around
+  centre =
+      centre-is (small (predℤ r) (predℤ c)) (small (predℤ r) c) (small (predℤ r) (sucℤ c)) (small r (predℤ c)) (small r c) (small r (sucℤ c))
+      (small (sucℤ r) (predℤ c)) (small (sucℤ r) c) (small (sucℤ r) (sucℤ c))
 
-pub life-by-table : {w h : ℕ} {cells : List ℕ} → Board w h cells → (r c : ℤ) → tableStep conway (onPlane w h cells) r c ≡ lifeStep (onPlane w h cells) r c
-unfolding around right
-life-by-table {w} {h} {cells} b r c =
-    eqb-true _ _
-    (both-at _
-    (both-at _
-    (both-at _
-    (both-at _
-    (both-at _
-    (both-at _
-    (both-at _
-    (both-at _
-    (both-at _ all-right _ (plane-small b (predℤ r) (predℤ c)))
-    _ (plane-small b (predℤ r) c))
-    _ (plane-small b (predℤ r) (sucℤ c)))
-    _ (plane-small b r (predℤ c)))
-    _ (plane-small b r c))
-    _ (plane-small b r (sucℤ c)))
-    _ (plane-small b (sucℤ r) (predℤ c)))
-    _ (plane-small b (sucℤ r) c))
-    _ (plane-small b (sucℤ r) (sucℤ c)))
+  live : liveAround (around P r c) ≡ neighbours P r c
+  unfolding around
+  live =
+      live-is (small (predℤ r) (predℤ c)) (small (predℤ r) c) (small (predℤ r) (sucℤ c)) (small r (predℤ c)) (small r c) (small r (sucℤ c))
+      (small (sucℤ r) (predℤ c)) (small (sucℤ r) c) (small (sucℤ r) (sucℤ c))
+
+  pub by-count : (rule : Rule) → tableStep (nextUnder rule) P r c ≡ stepUnder rule P r c
+  unfolding nextUnder
+  by-count rule = ap₂ (stateUnder rule) centre live

@@ -1,6 +1,6 @@
 -- The judge is right about the whole plane.
 -- Assumes nothing.
-use mathlib.Core.Path.{_≡_, _∙_, sym, ap, ap₂}
+use mathlib.Core.Path.{_≡_, refl, _∙_, sym, ap, ap₂}
 use mathlib.Core.Bool.{Bool, true, false}
 use mathlib.Core.Logic.{inl, inr, ⊎-elim}
 use mathlib.Core.Option.{Option, none, some}
@@ -12,14 +12,9 @@ use borrow.Author.Tests.{eqb-true, eqb-false, eq-eqb, ne-eqb}
 use lib.Arith.{digits-lt}
 use lib.IntN.{pos}
 use Rattle.board.specs.Search.{firstNot}
-use Rattle.board.specs.Answers.{gives}
-use Rattle.board.specs.Boards.{Board}
-use Rattle.board.specs.Checks.{boardCheck}
 use Rattle.board.proofs.Search.{Searched, searched, all-pass, fails-at, none-of, some-of}
-use Rattle.board.proofs.Answers.{then-gives}
-use Rattle.board.proofs.Checks.{board-passes, boarded}
 use Rattle.life.specs.Plane.{Plane, onPlane, tableStep, StillBy}
-use Rattle.life.specs.Calls.{ringSize, nextAt, keepsAt, judged, judgeRule, verdictAt, still, changes}
+use Rattle.life.specs.Calls.{ringSize, nextAt, keepsAt, judged, verdictAt, still, changes}
 use Rattle.life.specs.Theorems.{Before, FirstChange, JudgeRightBy}
 use Rattle.life.proofs.Ring.{place-row, place-column, place-of, row-of-place, column-of-place}
 use Rattle.life.proofs.Far.{still-of-ring}
@@ -80,58 +75,52 @@ module _ (next : ℕ → ℕ) (w h : ℕ) (cells : List ℕ) where
   changes-of r q e = rw (row-of-place w r q, column-of-place w r q) (ne-eqb _ _ e)
 
   -- ---- the verdict
-  module _ (b : Board w h cells) where
-    verdict : judgeRule next w h cells ≡ verdictAt w (firstNot test (ringSize w h))
-    unfolding judgeRule judged
-    verdict = rw (board-passes b)
+  verdict : judged next w h cells ≡ verdictAt w (firstNot test (ringSize w h))
+  unfolding judged
+  verdict = refl
 
-    module _ (quiet : next 0 ≡ 0) where
-      still-of : (o : Option ℕ) → Searched test (ringSize w h) o → verdictAt w o ≡ still → StillBy next P
-      still-of none (all-pass all) e = still-of-ring w h cells next quiet (λ r c p q. kept-at r q (all (r * (w + 2) + c) (place-of w h p q)))
-      still-of (some k) (fails-at _ l f a) e = absurd (no-change (sym e))
+  of-still : StillBy next P → firstNot test (ringSize w h) ≡ none
+  unfolding StillBy
+  of-still s = none-of test (ringSize w h) (λ k l. keeps-of k (s (pos (k / (w + 2))) (pos (k % (w + 2)))))
 
-      change-of : (r c : ℕ) (o : Option ℕ) → Searched test (ringSize w h) o → verdictAt w o ≡ changes r c → FirstChange (tableStep next) w h P r c
-      change-of r c none (all-pass all) e = absurd (no-change e)
-      change-of r c (some k) (fails-at _ l f a) e =
-          let er : k / (w + 2) ≡ r = cc in
-          let ec : k % (w + 2) ≡ c = cc in
-          let ek : r * (w + 2) + c ≡ k = rw (er, ec) at (whole w k) in
-          record {
-            row = rw er at (place-row w h l);
-            column = rw ec at (place-column w k);
-            changed = rw (er, ec) at (changed-at k f);
-            kept = λ s d q m. kept-at s q (a (s * (w + 2) + d) (rw ek at (earlier w q m)));
-          }
+  change-of : (r c : ℕ) (o : Option ℕ) → Searched test (ringSize w h) o → verdictAt w o ≡ changes r c → FirstChange (tableStep next) w h P r c
+  change-of r c none (all-pass all) e = absurd (no-change e)
+  change-of r c (some k) (fails-at _ l f a) e =
+      let er : k / (w + 2) ≡ r = cc in
+      let ec : k % (w + 2) ≡ c = cc in
+      let ek : r * (w + 2) + c ≡ k = rw (er, ec) at (whole w k) in
+      record {
+        row = rw er at (place-row w h l);
+        column = rw ec at (place-column w k);
+        changed = rw (er, ec) at (changed-at k f);
+        kept = λ s d q m. kept-at s q (a (s * (w + 2) + d) (rw ek at (earlier w q m)));
+      }
 
-      of-change : (r c : ℕ) → FirstChange (tableStep next) w h P r c → firstNot test (ringSize w h) ≡ some (r * (w + 2) + c)
-      of-change r c f =
-          some-of test (ringSize w h) (r * (w + 2) + c) (place-of w h (f .row) (f .column)) (changes-of r (f .column) (f .changed))
-          (λ j l. keeps-of j (f .kept (j / (w + 2)) (j % (w + 2)) (place-column w j) (earlier-place w (f .column) l)))
+  of-change : (r c : ℕ) → FirstChange (tableStep next) w h P r c → firstNot test (ringSize w h) ≡ some (r * (w + 2) + c)
+  of-change r c f =
+      some-of test (ringSize w h) (r * (w + 2) + c) (place-of w h (f .row) (f .column)) (changes-of r (f .column) (f .changed))
+      (λ j l. keeps-of j (f .kept (j / (w + 2)) (j % (w + 2)) (place-column w j) (earlier-place w (f .column) l)))
 
-    of-still : StillBy next P → firstNot test (ringSize w h) ≡ none
-    unfolding StillBy
-    of-still s = none-of test (ringSize w h) (λ k l. keeps-of k (s (pos (k / (w + 2))) (pos (k % (w + 2)))))
-
--- a verdict is about a board
-board-of : (next : ℕ → ℕ) (w h : ℕ) (cells : List ℕ) {vs : List ℕ} → judgeRule next w h cells ≡ gives vs → Board w h cells
-unfolding judgeRule
-board-of next w h cells e = boarded w h cells (then-gives (boardCheck w h cells) (judged next w h cells) e .0 .1)
+  module _ (quiet : next 0 ≡ 0) where
+    still-of : (o : Option ℕ) → Searched test (ringSize w h) o → verdictAt w o ≡ still → StillBy next P
+    still-of none (all-pass all) e = still-of-ring w h cells next quiet (λ r c p q. kept-at r q (all (r * (w + 2) + c) (place-of w h p q)))
+    still-of (some k) (fails-at _ l f a) e = absurd (no-change (sym e))
 
 pub judge-right : (next : ℕ → ℕ) → next 0 ≡ 0 → JudgeRightBy next
 judge-right next quiet w h cells = (
   (
-    λ e. let b = board-of next w h cells e in (b, still-of next w h cells b quiet _ found (sym (says b) ∙ e)),
-    λ s. says (s .0) ∙ ap (verdictAt w) (of-still next w h cells (s .0) (s .1)),
+    λ e. still-of next w h cells quiet _ found (sym says ∙ e),
+    λ s. says ∙ ap (verdictAt w) (of-still next w h cells s),
   ),
   λ r c. (
-    λ e. let b = board-of next w h cells e in (b, change-of next w h cells b quiet r c _ found (sym (says b) ∙ e)),
-    λ f. says (f .0) ∙ ap (verdictAt w) (of-change next w h cells (f .0) quiet r c (f .1))
-        ∙ ap₂ changes (row-of-place w r (f .1 .column)) (column-of-place w r (f .1 .column)),
+    λ e. change-of next w h cells r c _ found (sym says ∙ e),
+    λ f. says ∙ ap (verdictAt w) (of-change next w h cells r c f)
+        ∙ ap₂ changes (row-of-place w r (f .column)) (column-of-place w r (f .column)),
   ),
 )
   where
     found : Searched (keepsAt next w h cells) (ringSize w h) (firstNot (keepsAt next w h cells) (ringSize w h))
     found = searched (keepsAt next w h cells) (ringSize w h)
 
-    says : Board w h cells → judgeRule next w h cells ≡ verdictAt w (firstNot (keepsAt next w h cells) (ringSize w h))
+    says : judged next w h cells ≡ verdictAt w (firstNot (keepsAt next w h cells) (ringSize w h))
     says = verdict next w h cells

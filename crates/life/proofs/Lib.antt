@@ -1,6 +1,7 @@
 -- The laws of this crate that belong to no one function.
 pub mod OnPlane
 pub mod Ring
+pub mod Checking
 pub mod Same
 pub mod Far
 pub mod Judging

@@ -6,7 +6,8 @@ use Prim.Native.Nat.{ℕ, _+_, _/_, _%_, _<_}
 use lib.IntN.{pos}
 use Rattle.board.specs.Search.{firstNot}
 use Rattle.board.specs.Boards.{Board}
-use Rattle.life.specs.Calls.{nextAt, keepsAt, stepped, judged, listed, ringSize, verdictAt}
+use Rattle.board.specs.Lists.{listed}
+use Rattle.life.specs.Calls.{nextAt, keepsAt, stepped, judged, ringSize, verdictAt}
 use Rattle.life.proofs.OnPlane.{around-small}
 
 module _ (next other : ℕ → ℕ) (same : (p : ℕ) → p < 512 → next p ≡ other p) {w h : ℕ} {cells : List ℕ} (b : Board w h cells) where

@@ -5,18 +5,13 @@ use mathlib.Core.List.{List}
 use Prim.Native.Nat.{ℕ, _+_, _*_, _≤_}
 use native.Mathlib.Omega.{arith}
 use lib.IntN.{ℤ, pos, sucℤ}
-use lib.Dec.{eqb}
-use lib.ListN.{length, getD}
-use Rattle.board.specs.Answers.{passed, refuseUnless}
-use Rattle.board.specs.Boards.{Board}
-use Rattle.board.specs.Checks.{boardCheck}
-use Rattle.board.proofs.Answers.{then-gives}
-use Rattle.board.proofs.Checks.{boarded}
+use lib.ListN.{getD}
+use Rattle.board.proofs.Lists.{getD-listed}
 use Rattle.life.specs.Plane.{onPlane, tableStep}
-use Rattle.life.specs.Calls.{ringSize, nextAt, stepped, stepRule, stepWrites}
+use Rattle.life.specs.Calls.{ringSize, nextAt, stepped}
 use Rattle.life.specs.Theorems.{StepRightBy}
 use Rattle.life.proofs.OnPlane.{off-row, off-column, on-board}
-use Rattle.life.proofs.Ring.{place-of, row-of-place, column-of-place, getD-listed}
+use Rattle.life.proofs.Ring.{place-of, row-of-place, column-of-place}
 use Rattle.life.proofs.Far.{Where, near, far, where-is, far-row, far-column}
 
 -- the byte of a row and a column
@@ -27,22 +22,11 @@ byte next w h cells {r} {c} p q =
     getD-listed (nextAt next w h cells) (ringSize w h) (r * (w + 2) + c) (place-of w h p q)
     ∙ ap₂ (λ (s d : ℕ). tableStep next (onPlane w h cells) (pos s) (pos d)) (row-of-place w r q) (column-of-place w r q)
 
--- the bytes, on the plane
-on-plane : (next : ℕ → ℕ) → next 0 ≡ 0 → (w h : ℕ) (cells : List ℕ) (r c : ℤ)
-    → onPlane (w + 2) (h + 2) (stepped next w h cells) (sucℤ r) (sucℤ c) ≡ tableStep next (onPlane w h cells) r c
-on-plane next quiet w h cells r c = go (where-is h r) (where-is w c)
+pub step-right : (next : ℕ → ℕ) → next 0 ≡ 0 → StepRightBy next
+step-right next quiet w h cells r c = go (where-is h r) (where-is w c)
   where
     go : {r c : ℤ} → Where h r → Where w c
         → onPlane (w + 2) (h + 2) (stepped next w h cells) (sucℤ r) (sucℤ c) ≡ tableStep next (onPlane w h cells) r c
     go (near i p) (near j q) = on-board (w + 2) (h + 2) (stepped next w h cells) i j (omega arith) (omega arith) ∙ byte next w h cells p q
     go {r} {c} (far f) v = off-row (w + 2) (h + 2) (stepped next w h cells) (f .outside) (sucℤ c) ∙ sym (far-row w h cells next quiet f c)
     go {r} (near i p) (far f) = off-column (w + 2) (h + 2) (stepped next w h cells) (f .outside) _ ∙ sym (far-column w h cells next quiet _ f)
-
-pub step-right : (next : ℕ → ℕ) → next 0 ≡ 0 → StepRightBy next (tableStep next)
-unfolding stepWrites
-step-right next quiet w h cells ring passes r c = rw passes (on-plane next quiet w h cells r c)
-
--- a step that passes is of a board
-pub stepped-board : (w h : ℕ) (cells ring : List ℕ) → stepRule w h cells (length ring) ≡ passed → Board w h cells
-unfolding stepRule
-stepped-board w h cells ring e = boarded w h cells (then-gives (boardCheck w h cells) (refuseUnless (eqb (length ring) (ringSize w h)) 10) e .0 .1)

@@ -1,15 +1,18 @@
--- Document 01, "Life's step": what stepping writes and what judging answers, for every input.
+-- Document 01, "Life's step", and Req 02: what stepping writes and what judging answers, for every input.
 -- Assumes nothing.
 use mathlib.Core.Bool.{Bool}
 use mathlib.Core.Option.{Option, none, some}
-use mathlib.Core.List.{List, [], _∷_, _++_}
-use Prim.Native.Nat.{ℕ, zero, suc, _+_, _*_, _/_, _%_}
+use mathlib.Core.List.{List, [], _∷_}
+use Prim.Native.Nat.{ℕ, _+_, _*_, _/_, _%_}
 use lib.Dec.{eqb}
 use lib.IntN.{pos}
 use lib.ListN.{length}
 use Rattle.board.specs.Search.{firstNot}
 use Rattle.board.specs.Answers.{Answer, gives, _then_, refuseUnless, refusalSays, after}
-use Rattle.board.specs.Checks.{boardCheck}
+use Rattle.board.specs.Checks.{cellsCheck}
+use Rattle.board.specs.Lists.{listed}
+use Rattle.rule.specs.Rule.{gridCheck, nextUnder}
+use Rattle.rule.specs.declared.Rule.{Rule}
 use Rattle.life.specs.Plane.{onPlane, tableStep}
 use Rattle.life.specs.declared.Verdict.{Verdict}
 use Rattle.life.specs.declared.Verdict.the-variants.{Still, Changes, Refused}
@@ -25,23 +28,22 @@ nextAt next w h cells k = tableStep next (onPlane w h cells) (pos (k / (w + 2)))
 unfoldable pub keepsAt : (ℕ → ℕ) → ℕ → ℕ → List ℕ → ℕ → Bool
 keepsAt next w h cells k = eqb (nextAt next w h cells k) (onPlane w h cells (pos (k / (w + 2))) (pos (k % (w + 2))))
 
--- ---- stepping
--- f at each number below n
-unfoldable pub listed : (ℕ → ℕ) → ℕ → List ℕ
-listed f zero = []
-listed f (suc n) = listed f n ++ (f n ∷ [])
+-- stepping and judging begin with 1, 2, 13, 5, 11
+unfoldable pub lifeCheck : Rule → ℕ → ℕ → List ℕ → Answer
+lifeCheck rule w h cells = gridCheck rule w h then cellsCheck w h cells
 
+-- ---- stepping
 -- the next pattern, ring included, as (w + 2) × (h + 2) bytes
 unfoldable pub stepped : (ℕ → ℕ) → ℕ → ℕ → List ℕ → List ℕ
 stepped next w h cells = listed (nextAt next w h cells) (ringSize w h)
 
--- stepping into a buffer of n bytes: 1, 2, 5, 11, 10
-unfoldable pub stepRule : ℕ → ℕ → List ℕ → ℕ → Answer
-stepRule w h cells n = boardCheck w h cells then refuseUnless (eqb n (ringSize w h)) 10
+-- stepping into a buffer of n bytes: 1, 2, 13, 5, 11, 10
+unfoldable pub stepRule : Rule → ℕ → ℕ → List ℕ → ℕ → Answer
+stepRule rule w h cells n = lifeCheck rule w h cells then refuseUnless (eqb n (ringSize w h)) 10
 
 -- what the buffer holds afterwards
-unfoldable pub stepWrites : (ℕ → ℕ) → ℕ → ℕ → List ℕ → List ℕ → List ℕ
-stepWrites next w h cells ring = after (stepRule w h cells (length ring)) (stepped next w h cells) ring
+unfoldable pub stepWrites : Rule → ℕ → ℕ → List ℕ → List ℕ → List ℕ
+stepWrites rule w h cells ring = after (stepRule rule w h cells (length ring)) (stepped (nextUnder rule) w h cells) ring
 
 -- ---- judging
 -- "still", or the row and the column of a cell that changes, ring rows and columns counted
@@ -64,6 +66,6 @@ verdictAt w (some k) = changes (k / (w + 2)) (k % (w + 2))
 unfoldable pub judged : (ℕ → ℕ) → ℕ → ℕ → List ℕ → Answer
 judged next w h cells = verdictAt w (firstNot (keepsAt next w h cells) (ringSize w h))
 
--- judging: 1, 2, 5, 11, then the verdict
-unfoldable pub judgeRule : (ℕ → ℕ) → ℕ → ℕ → List ℕ → Answer
-judgeRule next w h cells = boardCheck w h cells then judged next w h cells
+-- judging: 1, 2, 13, 5, 11, then the verdict
+unfoldable pub judgeRule : Rule → ℕ → ℕ → List ℕ → Answer
+judgeRule rule w h cells = lifeCheck rule w h cells then judged (nextUnder rule) w h cells

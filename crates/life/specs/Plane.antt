@@ -1,4 +1,4 @@
--- Life on the whole plane. Rows and columns are integers; a board stands in rows 1 to h and columns 1 to w, and every other cell is dead.
+-- Life and its like on the whole plane. Rows and columns are integers; a board stands in rows 1 to h and columns 1 to w, and every other cell is dead.
 -- Assumes nothing.
 use mathlib.Core.Path.{_≡_}
 use mathlib.Core.Bool.{cond, _&&_}
@@ -7,7 +7,8 @@ use Prim.Native.Nat.{ℕ, _+_, _*_, _-_}
 use lib.IntN.{ℤ, pos, negsuc, sucℤ, predℤ}
 use lib.ListN.{getD}
 use Rattle.board.specs.Boards.{among}
-use Rattle.rule.specs.Rule.{nextState}
+use Rattle.rule.specs.Rule.{stateUnder, nextState}
+use Rattle.rule.specs.declared.Rule.{Rule}
 
 -- a state for each row and column, 0 dead, 1 live
 abbrev pub Plane : Type 0
@@ -25,13 +26,17 @@ neighbours P r c =
     P (predℤ r) (predℤ c) + P (predℤ r) c + P (predℤ r) (sucℤ c) + P r (predℤ c) + P r (sucℤ c) + P (sucℤ r) (predℤ c) + P (sucℤ r) c
     + P (sucℤ r) (sucℤ c)
 
--- one step of Life
+-- one step under a rule
+abbrev pub stepUnder : Rule → Plane → Plane
+stepUnder rule P r c = stateUnder rule (P r c) (neighbours P r c)
+
+-- one step of Life, by its cases
 abbrev pub lifeStep : Plane → Plane
 lifeStep P r c = nextState (P r c) (neighbours P r c)
 
--- a still life: one step changes no cell of the plane
-unfoldable pub Still : Plane → Type 0
-Still P = (r c : ℤ) → lifeStep P r c ≡ P r c
+-- a still life: one step under the rule changes no cell of the plane
+unfoldable pub Still : Rule → Plane → Type 0
+Still rule P = (r c : ℤ) → stepUnder rule P r c ≡ P r c
 
 -- three neighbouring cells of a row, as three digits
 abbrev pub three : (ℤ → ℕ) → ℤ → ℕ

@@ -4,17 +4,18 @@ use mathlib.Core.Path.{_≡_}
 use mathlib.Core.Logic.{_↔_, _⊎_}
 use mathlib.Core.List.{List}
 use Prim.Native.Nat.{ℕ, _+_, _^_, _<_, _≤_}
-use lib.IntN.{ℤ, pos, sucℤ}
+use lib.IntN.{ℤ, pos, negsuc, sucℤ}
 use lib.ListN.{length}
 use Rattle.board.specs.Answers.{passed}
 use Rattle.board.specs.Boards.{Board}
-use Rattle.rule.specs.Rule.{conway}
-use Rattle.life.specs.Plane.{Plane, onPlane, three, lifeStep, tableStep, Still, StillBy}
+use Rattle.rule.specs.Rule.{hasCount, Allowed, conwayRule, nextUnder}
+use Rattle.rule.specs.declared.Rule.{Rule}
+use Rattle.life.specs.Plane.{Plane, onPlane, three, stepUnder, lifeStep, tableStep, Still, StillBy}
 use Rattle.life.specs.Rows.{RowsAgree, cellOf, window}
-use Rattle.life.specs.Calls.{stepRule, stepWrites, judgeRule, verdictSays, still, changes}
+use Rattle.life.specs.Calls.{lifeCheck, stepped, judged, stepRule, stepWrites, judgeRule, verdictSays, still, changes}
 use Rattle.life.specs.declared.Verdict.{Verdict}
 
--- ---- the judge
+-- ---- for every next-state table whose pattern 0 stays dead
 -- cell (r, c) stands before cell (s, d) in reading order
 abbrev pub Before : ℕ → ℕ → ℕ → ℕ → Type 0
 Before r c s d = (r < s) ⊎ ((r ≡ s) × (c < d))
@@ -26,42 +27,67 @@ pub record FirstChange (step : Plane → Plane) (w h : ℕ) (P : Plane) (r c : �
   pub changed : step P (pos r) (pos c) ≡ P (pos r) (pos c) → ⊥
   pub kept : (s d : ℕ) → d ≤ w + 1 → Before s d r c → step P (pos s) (pos d) ≡ P (pos s) (pos d)
 
--- by a next-state table: "still" exactly for a board of which no cell of the plane changes, a cell exactly when it is the first that changes
+-- "still" exactly where no cell of the plane changes, a cell exactly when it is the first that changes
 abbrev pub JudgeRightBy : (ℕ → ℕ) → Type 0
 JudgeRightBy next =
     (w h : ℕ) (cells : List ℕ) →
-    (judgeRule next w h cells ≡ still ↔ Board w h cells × StillBy next (onPlane w h cells)) ×
-    ((r c : ℕ) → judgeRule next w h cells ≡ changes r c ↔ Board w h cells × FirstChange (tableStep next) w h (onPlane w h cells) r c)
+    (judged next w h cells ≡ still ↔ StillBy next (onPlane w h cells)) ×
+    ((r c : ℕ) → judged next w h cells ≡ changes r c ↔ FirstChange (tableStep next) w h (onPlane w h cells) r c)
 
--- of what `judge` hands back, by its contract: "still" and the first change are those of Life by the neighbour count
-abbrev pub JudgeRight : Type 0
-JudgeRight =
-    (w h : ℕ) (cells : List ℕ) (v : Verdict) → verdictSays v ≡ judgeRule conway w h cells →
-    (v ≡ Verdict.Still ↔ Board w h cells × Still (onPlane w h cells)) ×
-    ((r c : ℕ) → v ≡ Verdict.Changes r c ↔ Board w h cells × FirstChange lifeStep w h (onPlane w h cells) r c)
+-- the bytes that are written, with row 0 and column 0 at the first and all outside dead, are the next plane
+abbrev pub StepRightBy : (ℕ → ℕ) → Type 0
+StepRightBy next =
+    (w h : ℕ) (cells : List ℕ) (r c : ℤ) → onPlane (w + 2) (h + 2) (stepped next w h cells) (sucℤ r) (sucℤ c) ≡ tableStep next (onPlane w h cells) r c
 
--- ---- the step
--- of what a step that passes leaves in the buffer: with row 0 and column 0 at its first byte and all outside dead, it is the next plane
-abbrev pub StepRightBy : (ℕ → ℕ) → (Plane → Plane) → Type 0
-StepRightBy next step =
-    (w h : ℕ) (cells ring : List ℕ) → stepRule w h cells (length ring) ≡ passed →
-    (r c : ℤ) → onPlane (w + 2) (h + 2) (stepWrites next w h cells ring) (sucℤ r) (sucℤ c) ≡ step (onPlane w h cells) r c
-
-abbrev pub StepRight : Type 0
-StepRight = StepRightBy conway lifeStep
-
--- ---- the rows
 -- a board is still exactly when its rows agree
 abbrev pub StillByRowsBy : (ℕ → ℕ) → Type 0
 StillByRowsBy next = (w h : ℕ) (cells : List ℕ) → Board w h cells → StillBy next (onPlane w h cells) ↔ RowsAgree next w h cells
 
-abbrev pub StillByRows : Type 0
-StillByRows = (w h : ℕ) (cells : List ℕ) → Board w h cells → Still (onPlane w h cells) ↔ RowsAgree conway w h cells
+abbrev pub ForEveryTable : Type 0
+ForEveryTable = (next : ℕ → ℕ) → next 0 ≡ 0 → JudgeRightBy next × StepRightBy next × StillByRowsBy next
 
+-- ---- under every rule, by the neighbour count
+-- the checks of stepping and judging turn away exactly the barred rules and what is no board
+abbrev pub LifeCheckRight : Type 0
+LifeCheckRight = (rule : Rule) (w h : ℕ) (cells : List ℕ) → lifeCheck rule w h cells ≡ passed ↔ Allowed rule × Board w h cells
+
+-- of what `judge` hands back, by its contract: "still" exactly for an allowed rule and a board that is still under it,
+-- a cell exactly when it is the first that changes
+abbrev pub JudgeRight : Type 0
+JudgeRight =
+    (rule : Rule) (w h : ℕ) (cells : List ℕ) (v : Verdict) → verdictSays v ≡ judgeRule rule w h cells →
+    (v ≡ Verdict.Still ↔ Allowed rule × Board w h cells × Still rule (onPlane w h cells)) ×
+    ((r c : ℕ) → v ≡ Verdict.Changes r c ↔ Allowed rule × Board w h cells × FirstChange (stepUnder rule) w h (onPlane w h cells) r c)
+
+-- of what a step that passes, so of an allowed rule and a board, leaves in the buffer: it is the next plane
+abbrev pub StepRight : Type 0
+StepRight =
+    (rule : Rule) (w h : ℕ) (cells ring : List ℕ) → stepRule rule w h cells (length ring) ≡ passed →
+    (r c : ℤ) → onPlane (w + 2) (h + 2) (stepWrites rule w h cells ring) (sucℤ r) (sucℤ c) ≡ stepUnder rule (onPlane w h cells) r c
+
+-- a board is still exactly when its rows agree
+abbrev pub StillByRows : Type 0
+StillByRows =
+    (rule : Rule) → Allowed rule →
+    (w h : ℕ) (cells : List ℕ) → Board w h cells → Still rule (onPlane w h cells) ↔ RowsAgree (nextUnder rule) w h cells
+
+-- row or column r is past the ring around rows or columns 1 to n
+pub data Past (n : ℕ) : ℤ → Type 0 where
+  under : (k : ℕ) → Past n (negsuc k)
+  over : (k : ℕ) → n + 1 < k → Past n (pos k)
+
+-- a cell past the ring, two or more away from the board, stays dead exactly where 0 is no birth count
+abbrev pub FarCells : Type 0
+FarCells =
+    (rule : Rule) (w h : ℕ) (cells : List ℕ) (r c : ℤ) → Past h r ⊎ Past w c →
+    stepUnder rule (onPlane w h cells) r c ≡ 0 ↔ hasCount (rule .births) 0 ≡ 0
+
+-- Conway's rule steps a board as Life does
+abbrev pub ConwaySteps : Type 0
+ConwaySteps =
+    (w h : ℕ) (cells : List ℕ) → Board w h cells → (r c : ℤ) → stepUnder conwayRule (onPlane w h cells) r c ≡ lifeStep (onPlane w h cells) r c
+
+-- ---- windows
 -- a row's window is its three cells
 abbrev pub WindowRight : Type 0
 WindowRight = (w row c : ℕ) → row < 2 ^ w → c ≤ w + 1 → window w row c ≡ three (cellOf w row) (pos c)
-
--- ---- all of it, for every next-state table whose pattern 0 stays dead
-abbrev pub ForEveryTable : Type 0
-ForEveryTable = (next : ℕ → ℕ) → next 0 ≡ 0 → JudgeRightBy next × StepRightBy next (tableStep next) × StillByRowsBy next

@@ -1,6 +1,13 @@
-// The next state of the centre of each 3 by 3 pattern of cells.
+// The next state of the centre of each 3 by 3 pattern of cells, by Life's rule and by any other.
 // A pattern is a number of nine binary digits: top left worth 256, centre 16, bottom right 1.
-ghost use Rattle.rule.specs.Rule.{Conway};
+use crate::Rule;
+use board::Check;
+use board::Refusal;
+ghost use mathlib.Core.Path.{_≡_};
+ghost use Prim.Native.Nat.{_≤_};
+ghost use lib.ListN.{length};
+ghost use Rattle.board.specs.Answers.{checkSays};
+ghost use Rattle.rule.specs.Rule.{Holds, Conway, hasCount, liveAround, nextUnder, tableOf, generateRule, generateWrites};
 
 const NEXT: [u8; 512] = [
     0,
@@ -522,4 +529,67 @@ pub fn conway() -> [u8; 512]
     ensures { λ r. ⌜ Conway r ⌝ }
 {
     NEXT
+}
+
+// A rule's table, to be kept and lent; a barred rule has one too.
+pub fn of(rule: Rule) -> [u8; 512]
+    ensures { λ r. ⌜ Holds (nextUnder rule) r ⌝ }
+{
+    let mut table = [0; 512];
+    fill(rule, &mut table);
+    table
+}
+
+// The generator: fills a table of exactly 512 entries from a rule. Refusals 13, 6.
+pub fn generate(rule: Rule, table: &mut [u8]) -> Check
+    ensures { λ r. ⌜ (checkSays r ≡ generateRule rule (length (now (table .entry)))) ×
+        (now (table .exit) ≡ generateWrites rule (now (table .entry))) ⌝ }
+{
+    if let Check::Refused(r) = crate::check_rule(rule) {
+        return Check::Refused(r);
+    }
+    if table.len() != 512 {
+        return Check::Refused(Refusal::ShortTable);
+    }
+    fill(rule, table);
+    Check::Passed
+}
+
+// Writes the 512 entries.
+fn fill(rule: Rule, table: &mut [u8])
+    requires { ⌜ length (now table) ≡ 512 ⌝ }
+    ensures { λ _. ⌜ now (table .exit) ≡ tableOf rule ⌝ }
+{
+    let mut p = 0;
+    while p < table.len() {
+        table[p] = next_of(rule, p);
+        p += 1;
+    }
+}
+
+// The next state of a pattern's centre.
+fn next_of(rule: Rule, p: usize) -> u8
+    ensures { λ r. ⌜ r ≡ nextUnder rule p ⌝ }
+{
+    let live = live_around(p);
+    if p / 16 % 2 == 0 {
+        has_count(rule.births, live)
+    } else {
+        has_count(rule.survivals, live)
+    }
+}
+
+// The live neighbours of a pattern's centre.
+fn live_around(p: usize) -> usize
+    ensures { λ r. ⌜ (r ≡ liveAround p) × (r ≤ 8) ⌝ }
+{
+    p / 256 % 2 + p / 128 % 2 + p / 64 % 2 + p / 32 % 2 + p / 8 % 2 + p / 4 % 2 + p / 2 % 2 + p % 2
+}
+
+// 1 where n is one of the counts; a cell has eight neighbours.
+fn has_count(counts: usize, n: usize) -> u8
+    requires { ⌜ n ≤ 8 ⌝ }
+    ensures { λ r. ⌜ r ≡ hasCount counts n ⌝ }
+{
+    ((counts >> n) % 2) as u8
 }

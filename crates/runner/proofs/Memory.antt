@@ -8,7 +8,10 @@ use borrow.Author.Tests.{eq-eqb, le-leb}
 use lib.ListN.{length}
 use Rattle.board.specs.Answers.{passed}
 use Rattle.board.specs.Boards.{Bytes, Givens}
-use Rattle.board.proofs.Checks.{size-passes, marks-pass}
+use Rattle.board.proofs.Checks.{marks-pass}
+use Rattle.rule.specs.Rule.{Allowed}
+use Rattle.rule.specs.declared.Rule.{Rule}
+use Rattle.rule.proofs.Rules.{grid-passes}
 use Rattle.score_table.specs.ScoreTable.{tableSize}
 use Rattle.solver.specs.Jobs.{start, openRule, workCheck}
 use Rattle.solver.specs.Units.{State, Step, next, spoiled, unitOf}
@@ -23,14 +26,14 @@ use Rattle.solver.proofs.Serving.{table-pos}
 use Rattle.runner.specs.Solving.{memoryCheck}
 
 -- ---- an opened job
-module _ {w h : ℕ} {g : List ℕ} (G : Givens w h g) where
-  pub start-opens : Opens w h g (Opened.Ready (start w h))
+module _ {rule : Rule} (allowed : Allowed rule) {w h : ℕ} {g : List ℕ} (G : Givens w h g) where
+  pub start-opens : Opens rule w h g (Opened.Ready (start rule w h))
   unfolding openRule
-  start-opens = record { says = rw (size-passes (G .size), marks-pass (G .bytes)); job = λ j e. cc }
+  start-opens = record { says = rw (grid-passes rule (G .size) allowed, marks-pass (G .bytes)); job = λ j e. cc }
 
-  pub start-check : (t β : List ℕ) → workCheck (start w h) g t β ≡ memoryCheck w h t β
+  pub start-check : (t β : List ℕ) → workCheck (start rule w h) g t β ≡ memoryCheck w h t β
   unfolding workCheck memoryCheck
-  start-check t β = rw (fits-of w h 0 Stage.Filling (G .size) (table-pos (G .size)), marks-pass (G .bytes))
+  start-check t β = rw (fits-of rule w h 0 Stage.Filling (record { size = G .size; allowed = allowed }) (table-pos (G .size)), marks-pass (G .bytes))
 
 -- ---- a call that passes
 pub check-passes : (j : Job) (g t β : List ℕ) → Bytes 2 (j .width) (j .height) g → Lent j g t β → workCheck j g t β ≡ passed

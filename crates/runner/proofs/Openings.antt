@@ -5,10 +5,13 @@ use mathlib.Core.List.{List}
 use Prim.Native.Nat.{ℕ}
 use Rattle.board.specs.Answers.{Answer, gives, refuses, refusalSays, _then_}
 use Rattle.board.specs.Boards.{Givens}
-use Rattle.board.specs.Checks.{sizeCheck, givensCheck}
+use Rattle.board.specs.Checks.{givensCheck}
 use Rattle.board.specs.declared.Refusal.{Refusal}
 use Rattle.board.proofs.Answers.{refuses-none, then-gives}
-use Rattle.board.proofs.Checks.{sized, marks-of, size-passes, marks-pass}
+use Rattle.board.proofs.Checks.{marks-of, marks-pass}
+use Rattle.rule.specs.Rule.{Allowed, gridCheck}
+use Rattle.rule.specs.declared.Rule.{Rule}
+use Rattle.rule.proofs.Rules.{grid-allowed, grid-passes}
 use Rattle.solver.specs.Jobs.{start, jobSays, openRule, openedSays}
 use Rattle.solver.specs.Calls.{Opens}
 use Rattle.solver.specs.declared.Job.{Job}
@@ -22,12 +25,12 @@ refused-then (gives xs) (gives ys) values e rest = absurd (refuses-none e)
 refused-then (gives xs) (refuses m ys) values e rest = sym e
 refused-then (refuses m xs) b values e rest = sym e
 
-module _ {w h : ℕ} {g : List ℕ} {o : Opened} (O : Opens w h g o) where
-  pub refused-solves : {r : Refusal} → o ≡ Opened.Refused r → (t β : List ℕ) → Solves w h g t β (Solved.Refused r) t β
+module _ {rule : Rule} {w h : ℕ} {g : List ℕ} {o : Opened} (O : Opens rule w h g o) where
+  pub refused-solves : {r : Refusal} → o ≡ Opened.Refused r → (t β : List ℕ) → Solves rule w h g t β (Solved.Refused r) t β
   unfolding openRule solveCheck
   refused-solves {r} e t β =
-      let c : solveCheck w h g t β ≡ refusalSays r =
-      refused-then (sizeCheck w h) (givensCheck w h g) (jobSays (start w h)) (sym (ap openedSays e) ∙ O .says) (memoryCheck w h t β) in record {
+      let c : solveCheck rule w h g t β ≡ refusalSays r =
+      refused-then (gridCheck rule w h) (givensCheck w h g) (jobSays (start rule w h)) (sym (ap openedSays e) ∙ O .says) (memoryCheck w h t β) in record {
         comes = record {
           turned = λ n values q. (sym c ∙ q, refl, refl);
           ended = λ q. absurd (refuses-none (sym c ∙ q));
@@ -36,16 +39,18 @@ module _ {w h : ℕ} {g : List ℕ} {o : Opened} (O : Opens w h g o) where
       }
 
   module _ {j : Job} (e : o ≡ Opened.Ready j) where
-    opened-givens : Givens w h g
+    opened-grid : Givens w h g × Allowed rule
     unfolding openRule
-    opened-givens =
-        let p = then-gives (sizeCheck w h) (givensCheck w h g then gives (jobSays (start w h))) (sym (O .says) ∙ ap openedSays e) in
-        let q = then-gives (givensCheck w h g) (gives (jobSays (start w h))) (p .1) in
-        record { size = sized w h (p .0 .1); bytes = marks-of w h g (q .0 .1) }
+    opened-grid =
+        let p = then-gives (gridCheck rule w h) (givensCheck w h g then gives (jobSays (start rule w h))) (sym (O .says) ∙ ap openedSays e) in
+        let q = then-gives (givensCheck w h g) (gives (jobSays (start rule w h))) (p .1) in
+        let r = grid-allowed rule w h (p .0 .1) in
+        (record { size = r .0; bytes = marks-of w h g (q .0 .1) }, r .1)
 
     pub opened-ready : Ready j g
-    opened-ready = rw (O .job j e) (record { fresh = refl; grid = opened-givens })
+    opened-ready = rw (O .job j e) (record { fresh = refl; allowed = opened-grid .1; grid = opened-grid .0 })
 
-    pub run-solves : {t β t′ β′ : List ℕ} {r : Solved} → Runs j g t β r t′ β′ → Solves w h g t β r t′ β′
+    pub run-solves : {t β t′ β′ : List ℕ} {r : Solved} → Runs j g t β r t′ β′ → Solves rule w h g t β r t′ β′
     unfolding solveCheck
-    run-solves R = record { comes = rw (size-passes (opened-givens .size), marks-pass (opened-givens .bytes)) (rw (O .job j e) at (R .comes)) }
+    run-solves R =
+        record { comes = rw (grid-passes rule (opened-grid .0 .size) (opened-grid .1), marks-pass (opened-grid .0 .bytes)) (rw (O .job j e) at (R .comes)) }

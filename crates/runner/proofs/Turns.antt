@@ -10,6 +10,8 @@ use lib.Dec.{leb}
 use Rattle.board.specs.Answers.{Answer, gives, refuses, passed}
 use Rattle.board.specs.Boards.{Givens}
 use Rattle.board.proofs.Answers.{refuses-none}
+use Rattle.rule.specs.Rule.{Allowed}
+use Rattle.rule.specs.declared.Rule.{Rule}
 use Rattle.solver.specs.Grid.{score}
 use Rattle.score_table.specs.ScoreTable.{tableSize}
 use Rattle.solver.specs.Jobs.{boardLength, noneLength, start, workCheck, unfinished, finished, infeasible}
@@ -29,8 +31,8 @@ use Rattle.runner.proofs.Memory.{start-opens, start-check, check-passes
 
 -- ---- a list of calls
 -- the opened job with its memory
-abbrev pub opened : ℕ → ℕ → List ℕ → List ℕ → State
-opened w h t β = lentState (start w h) t β
+abbrev pub opened : Rule → ℕ → ℕ → List ℕ → List ℕ → State
+opened rule w h t β = lentState (start rule w h) t β
 
 -- what the checks of a working call over a state say
 abbrev pub checkIn : List ℕ → State → Answer
@@ -38,11 +40,11 @@ checkIn g s = workCheck (s .job) g (s .table) (s .board)
 
 -- A list of calls that comes to a state in which the job is unfinished. The state passes the checks as the opened job does; memory that they
 -- turn away is as it was.
-pub record Going (w h : ℕ) (g t₀ β₀ : List ℕ) (s : State) : Type 0 where
+pub record Going (rule : Rule) (w h : ℕ) (g t₀ β₀ : List ℕ) (s : State) : Type 0 where
   pub calls : List Call
-  pub fair : Each (Fair g) calls (opened w h t₀ β₀)
-  pub comes : run calls (opened w h t₀ β₀) ≡ s
-  pub sum : summed calls (opened w h t₀ β₀) ≡ s .job .units
+  pub fair : Each (Fair g) calls (opened rule w h t₀ β₀)
+  pub comes : run calls (opened rule w h t₀ β₀) ≡ s
+  pub sum : summed calls (opened rule w h t₀ β₀) ≡ s .job .units
   pub below : s .job .units < boardLength w h
   pub width : s .job .width ≡ w
   pub height : s .job .height ≡ h
@@ -58,21 +60,21 @@ abbrev pub turn : List ℕ → ℕ → State → Result
 turn g allowance s = workOf (s .job) g (s .table) (s .board) allowance
 
 -- what a turn comes to where the checks pass, by the job's length, its last answer and its last board
-record Turned (w h : ℕ) (g t₀ β₀ : List ℕ) (n : ℕ) (s : State) (r : Result) : Type 0 where
+record Turned (rule : Rule) (w h : ℕ) (g t₀ β₀ : List ℕ) (n : ℕ) (s : State) (r : Result) : Type 0 where
   long : ℕ
   final : Answer
   wanted : List ℕ
   whole : tableSize w h ≤ long
   most : long ≤ boardLength w h
   last : final ≡ unfinished → ⊥
-  ends : (says : Answer) (β : List ℕ) → says ≡ final → β ≡ wanted → Ends w h g β₀ says β
+  ends : (says : Answer) (β : List ℕ) → says ≡ final → β ≡ wanted → Ends rule w h g β₀ says β
   units : r .state .job .units ≡ min long (s .job .units + n)
   under : r .state .job .units < long → r .answer ≡ unfinished
   from : long ≤ r .state .job .units → r .answer ≡ final
-  filled : Filled w h g (min (r .state .job .units) (tableSize w h)) t₀ (r .state .table)
+  filled : Filled rule w h g (min (r .state .job .units) (tableSize w h)) t₀ (r .state .table)
   board : long ≤ s .job .units + n → r .state .board ≡ wanted
 
-module _ {w h : ℕ} {g t₀ β₀ : List ℕ} {n : ℕ} {s : State} {r : Result} (T : Turned w h g t₀ β₀ n s r) where
+module _ {rule : Rule} {w h : ℕ} {g t₀ β₀ : List ℕ} {n : ℕ} {s : State} {r : Result} (T : Turned rule w h g t₀ β₀ n s r) where
   -- "unfinished" is answered below the job's length, and only there
   runs-on : r .answer ≡ unfinished → r .state .job .units < T .long
   runs-on u = go (leb (T .long) (r .state .job .units)) refl
@@ -89,8 +91,8 @@ module _ {w h : ℕ} {g t₀ β₀ : List ℕ} {n : ℕ} {s : State} {r : Result
       go false e = absurd (f (T .under (leb-false (T .long) (r .state .job .units) e)))
 
 -- what a turn that ends nothing leaves
-pub record Goes (w h : ℕ) (g t₀ β₀ : List ℕ) (s s′ : State) : Type 0 where
-  pub going : Going w h g t₀ β₀ s′
+pub record Goes (rule : Rule) (w h : ℕ) (g t₀ β₀ : List ℕ) (s s′ : State) : Type 0 where
+  pub going : Going rule w h g t₀ β₀ s′
   pub more : s .job .units < s′ .job .units
 
 -- the parts of a result
@@ -120,12 +122,12 @@ solved-ends (Solved.Best score) e = let z : _≡_ {A = ℕ} 0 1 = cc in omega ar
 solved-ends Solved.Infeasible e = let z : _≡_ {A = ℕ} 0 1 = cc in omega arith
 solved-ends (Solved.Refused r) e = refuses-none e
 
-module _ {w h : ℕ} {g : List ℕ} (G : Givens w h g) (t₀ β₀ : List ℕ) where
+module _ {rule : Rule} (permitted : Allowed rule) {w h : ℕ} {g : List ℕ} (G : Givens w h g) (t₀ β₀ : List ℕ) where
   abbrev s₀ : State
-  s₀ = opened w h t₀ β₀
+  s₀ = opened rule w h t₀ β₀
 
   -- no call yet
-  begins : Going w h g t₀ β₀ s₀
+  begins : Going rule w h g t₀ β₀ s₀
   unfolding run summed tableSize
   begins = record {
     calls = [];
@@ -135,12 +137,12 @@ module _ {w h : ℕ} {g : List ℕ} (G : Givens w h g) (t₀ β₀ : List ℕ) w
     below = omega (arith, table-pos (G .size));
     width = refl;
     height = refl;
-    check = start-check G t₀ β₀;
+    check = start-check permitted G t₀ β₀;
     same = λ n values e. (refl, refl);
   }
 
   -- the list with the turn's call at its end
-  module _ (n : ℕ) (s : State) (P : Going w h g t₀ β₀ s) where
+  module _ (n : ℕ) (s : State) (P : Going rule w h g t₀ β₀ s) where
     abbrev longer : List Call
     longer = P .calls ++ (lends g n s ∷ [])
 
@@ -159,8 +161,8 @@ module _ {w h : ℕ} {g : List ℕ} (G : Givens w h g) (t₀ β₀ : List ℕ) w
           ∙ ap₂ (λ (x y : ℕ). x + y) (P .sum) (ap (allowed (lends g n s)) (P .comes) ∙ ap (λ (a : Answer). counted a n) p)
 
       served-turns : (long : ℕ) (final : Answer) (wanted : List ℕ) → tableSize w h ≤ long → long ≤ boardLength w h → (final ≡ unfinished → ⊥)
-          → ((says : Answer) (β : List ℕ) → says ≡ final → β ≡ wanted → Ends w h g β₀ says β)
-          → Served w h g long final wanted longer s₀ → Turned w h g t₀ β₀ n s (turn g n s)
+          → ((says : Answer) (β : List ℕ) → says ≡ final → β ≡ wanted → Ends rule w h g β₀ says β)
+          → Served rule w h g long final wanted longer s₀ → Turned rule w h g t₀ β₀ n s (turn g n s)
       served-turns long final wanted whole most last ends S =
           let A = subst (Answers long final (lends g n s)) (P .comes) (each-last (lends g n s) (Answers long final) (P .calls) s₀ (S .answers)) in record {
             long = long;
@@ -177,11 +179,11 @@ module _ {w h : ℕ} {g : List ℕ} (G : Givens w h g) (t₀ β₀ : List ℕ) w
             board = rw (longer-comes, longer-sum) at (S .board);
           }
 
-      turns : Turned w h g t₀ β₀ n s (turn g n s)
+      turns : Turned rule w h g t₀ β₀ n s (turn g n s)
       unfolding ThirdDemand tableSize
-      turns = go (third-demand w h g t₀ β₀ (Opened.Ready (start w h)) (start w h) (start-opens G) refl longer longer-fair)
+      turns = go (third-demand rule w h g t₀ β₀ (Opened.Ready (start rule w h)) (start rule w h) (start-opens permitted G) refl longer longer-fair)
         where
-          go : Outcome w h g longer s₀ → Turned w h g t₀ β₀ n s (turn g n s)
+          go : Outcome rule w h g longer s₀ → Turned rule w h g t₀ β₀ n s (turn g n s)
           go (solved board O S) =
               served-turns (boardLength w h) (finished (score w h g board)) board (omega arith) (omega arith) (λ e. let z : _≡_ {A = ℕ} 0 1 = cc in omega arith)
               (λ says β e q. best (rw q O) (e ∙ ap (λ (b : List ℕ). finished (score w h g b)) (sym q))) S
@@ -198,7 +200,7 @@ module _ {w h : ℕ} {g : List ℕ} (G : Givens w h g) (t₀ β₀ : List ℕ) w
         go (refuses k values) e c = absurd (refuses-none (sym (ap answerOf (refused-turn g n s e)) ∙ u))
 
     -- a turn that ends nothing, and one that ends the job or is turned away
-    goes-on : 0 < n → turn g n s .answer ≡ unfinished → Goes w h g t₀ β₀ s (turn g n s .state)
+    goes-on : 0 < n → turn g n s .answer ≡ unfinished → Goes rule w h g t₀ β₀ s (turn g n s .state)
     goes-on some u =
         let p = unfinished-passed u in
         let T = turns p in
@@ -221,7 +223,7 @@ module _ {w h : ℕ} {g : List ℕ} (G : Givens w h g) (t₀ β₀ : List ℕ) w
           more = omega (arith, T .units);
         }
 
-    ends : (turn g n s .answer ≡ unfinished → ⊥) → Comes (memoryCheck w h t₀ β₀) w h g t₀ β₀ (turn g n s .answer) (turn g n s .state .table) (turn g n s .state .board)
+    ends : (turn g n s .answer ≡ unfinished → ⊥) → Comes (memoryCheck w h t₀ β₀) rule w h g t₀ β₀ (turn g n s .answer) (turn g n s .state .table) (turn g n s .state .board)
     ends f = record {
       turned = λ k values e.
           let q = refused-turn g n s (P .check ∙ e) in
@@ -241,13 +243,13 @@ module _ {w h : ℕ} {g : List ℕ} (G : Givens w h g) (t₀ β₀ : List ℕ) w
 -- ---- an opened job
 module _ {j : Job} {g t₀ β₀ : List ℕ} (R : Ready j g) where
   -- no call yet
-  pub ready-begins : Going (j .width) (j .height) g t₀ β₀ (lentState j t₀ β₀)
-  ready-begins = subst (λ (x : Job). Going (j .width) (j .height) g t₀ β₀ (lentState x t₀ β₀)) (sym (R .fresh)) (begins (R .grid) t₀ β₀)
+  pub ready-begins : Going (j .rule) (j .width) (j .height) g t₀ β₀ (lentState j t₀ β₀)
+  ready-begins = subst (λ (x : Job). Going (j .rule) (j .width) (j .height) g t₀ β₀ (lentState x t₀ β₀)) (sym (R .fresh)) (begins (R .allowed) (R .grid) t₀ β₀)
 
   -- what a turn hands back
-  module _ {s : State} (P : Going (j .width) (j .height) g t₀ β₀ s) (n : ℕ) {r : Result} (is : r ≡ turn g n s) where
-    pub turn-goes-on : 0 < n → r .answer ≡ unfinished → Goes (j .width) (j .height) g t₀ β₀ s (r .state)
-    turn-goes-on some u = rw is (goes-on (R .grid) t₀ β₀ n s P some (rw is at u))
+  module _ {s : State} (P : Going (j .rule) (j .width) (j .height) g t₀ β₀ s) (n : ℕ) {r : Result} (is : r ≡ turn g n s) where
+    pub turn-goes-on : 0 < n → r .answer ≡ unfinished → Goes (j .rule) (j .width) (j .height) g t₀ β₀ s (r .state)
+    turn-goes-on some u = rw is (goes-on (R .allowed) (R .grid) t₀ β₀ n s P some (rw is at u))
 
     pub turn-ends : {o : Solved} → r .answer ≡ solvedSays o → Runs j g t₀ β₀ o (r .state .table) (r .state .board)
-    turn-ends {o} e = record { comes = rw (← e, is) (ends (R .grid) t₀ β₀ n s P (λ u. solved-ends o (sym e ∙ ap answerOf is ∙ u))) }
+    turn-ends {o} e = record { comes = rw (← e, is) (ends (R .allowed) (R .grid) t₀ β₀ n s P (λ u. solved-ends o (sym e ∙ ap answerOf is ∙ u))) }

@@ -7,7 +7,9 @@ use lib.Dec.{leb}
 use lib.ListN.{length}
 use Rattle.board.specs.Answers.{Answer, refuses, passed, refusalSays, _then_, refuseUnless}
 use Rattle.board.specs.Boards.{Givens}
-use Rattle.board.specs.Checks.{sizeCheck, givensCheck, lengthCheck}
+use Rattle.board.specs.Checks.{givensCheck, lengthCheck}
+use Rattle.rule.specs.Rule.{Allowed, gridCheck}
+use Rattle.rule.specs.declared.Rule.{Rule}
 use Rattle.solver.specs.Grid.{Solution, Optimal, score}
 use Rattle.score_table.specs.ScoreTable.{tableSize}
 use Rattle.solver.specs.Jobs.{start, finished, infeasible}
@@ -21,34 +23,35 @@ solvedSays (Solved.Best score) = finished score
 solvedSays Solved.Infeasible = infeasible
 solvedSays (Solved.Refused r) = refusalSays r
 
--- its checks: 1, 2, 3, 4 as opening, 5, 6 as working
+-- its checks: 1, 2, 13, 3, 4 as opening, 5, 6 as working
 unfoldable pub memoryCheck : ℕ → ℕ → List ℕ → List ℕ → Answer
 memoryCheck w h table board = lengthCheck 5 w h board then refuseUnless (leb (tableSize w h) (length table)) 6
 
-unfoldable pub solveCheck : ℕ → ℕ → List ℕ → List ℕ → List ℕ → Answer
-solveCheck w h givens table board = sizeCheck w h then givensCheck w h givens then memoryCheck w h table board
+unfoldable pub solveCheck : Rule → ℕ → ℕ → List ℕ → List ℕ → List ℕ → Answer
+solveCheck rule w h givens table board = gridCheck rule w h then givensCheck w h givens then memoryCheck w h table board
 
 -- the board that is left is the wanted one, and the answer its score; or there is no still board that keeps the givens, the answer says so, and
 -- the board is unwritten
-pub data Ends (w h : ℕ) (givens board : List ℕ) (says : Answer) (board′ : List ℕ) : Type 0 where
-  best : Optimal w h givens board′ → says ≡ finished (score w h givens board′) → Ends w h givens board says board′
-  none : ((other : List ℕ) → Solution w h givens other → ⊥) → says ≡ infeasible → board′ ≡ board → Ends w h givens board says board′
+pub data Ends (rule : Rule) (w h : ℕ) (givens board : List ℕ) (says : Answer) (board′ : List ℕ) : Type 0 where
+  best : Optimal rule w h givens board′ → says ≡ finished (score w h givens board′) → Ends rule w h givens board says board′
+  none : ((other : List ℕ) → Solution rule w h givens other → ⊥) → says ≡ infeasible → board′ ≡ board → Ends rule w h givens board says board′
 
 -- Turned away, the call answers its refusal and writes nothing. Otherwise it comes to the job's end, and the table holds the right entries, with
 -- what it held in every place past them.
-pub record Comes (check : Answer) (w h : ℕ) (givens table board : List ℕ) (says : Answer) (table′ board′ : List ℕ) : Type 0 where
+pub record Comes (check : Answer) (rule : Rule) (w h : ℕ) (givens table board : List ℕ) (says : Answer) (table′ board′ : List ℕ) : Type 0 where
   pub turned : (n : ℕ) (values : List ℕ) → check ≡ refuses n values → (says ≡ refuses n values) × (table′ ≡ table) × (board′ ≡ board)
-  pub ended : check ≡ passed → Ends w h givens board says board′
-  pub filled : check ≡ passed → Filled w h givens (tableSize w h) table table′
+  pub ended : check ≡ passed → Ends rule w h givens board says board′
+  pub filled : check ≡ passed → Filled rule w h givens (tableSize w h) table table′
 
-pub record Solves (w h : ℕ) (givens table board : List ℕ) (r : Solved) (table′ board′ : List ℕ) : Type 0 where
-  pub comes : Comes (solveCheck w h givens table board) w h givens table board (solvedSays r) table′ board′
+pub record Solves (rule : Rule) (w h : ℕ) (givens table board : List ℕ) (r : Solved) (table′ board′ : List ℕ) : Type 0 where
+  pub comes : Comes (solveCheck rule w h givens table board) rule w h givens table board (solvedSays r) table′ board′
 
 -- ---- the inner function
 -- an opened job and its givens
 pub record Ready (j : Job) (givens : List ℕ) : Type 0 where
-  pub fresh : j ≡ start (j .width) (j .height)
+  pub fresh : j ≡ start (j .rule) (j .width) (j .height)
+  pub allowed : Allowed (j .rule)
   pub grid : Givens (j .width) (j .height) givens
 
 pub record Runs (j : Job) (givens table board : List ℕ) (r : Solved) (table′ board′ : List ℕ) : Type 0 where
-  pub comes : Comes (memoryCheck (j .width) (j .height) table board) (j .width) (j .height) givens table board (solvedSays r) table′ board′
+  pub comes : Comes (memoryCheck (j .width) (j .height) table board) (j .rule) (j .width) (j .height) givens table board (solvedSays r) table′ board′

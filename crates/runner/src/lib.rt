@@ -1,5 +1,6 @@
 // Runs a job to its end in one call, for callers that don't pause.
 use board::Refusal;
+use rule::Rule;
 use solver::Job;
 use solver::Opened;
 use solver::Status;
@@ -15,12 +16,19 @@ pub enum Solved {
 // The units that a working call is allowed.
 const ALLOWANCE: u32 = 1000;
 
-// Solves a grid of givens: leaves the best still board that keeps them, first in board order among the best, in `board`, over a table of h × 4^w
-// entries or more. Refusals 1, 2, 3, 4 as opening, then 5, 6 as working.
-pub fn solve(w: usize, h: usize, givens: &[u8], table: &mut [u16], board: &mut [u8]) -> Solved
-    ensures { λ r. ⌜ Solves w h (now (givens .entry)) (now (table .entry)) (now (board .entry)) r (now (table .exit)) (now (board .exit)) ⌝ }
+// Solves a grid of givens under a rule: leaves the best still board that keeps them, first in board order among the best, in `board`, over a
+// table of h × 4^w entries or more. Refusals 1, 2, 13, 3, 4 as opening, then 5, 6 as working.
+pub fn solve(
+    rule: Rule,
+    w: usize,
+    h: usize,
+    givens: &[u8],
+    table: &mut [u16],
+    board: &mut [u8],
+) -> Solved
+    ensures { λ r. ⌜ Solves rule w h (now (givens .entry)) (now (table .entry)) (now (board .entry)) r (now (table .exit)) (now (board .exit)) ⌝ }
 {
-    match solver::open(w, h, givens) {
+    match solver::open(rule, w, h, givens) {
         Opened::Refused(r) => Solved::Refused(r),
         Opened::Ready(job) => run(job, givens, table, board),
     }

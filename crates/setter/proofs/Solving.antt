@@ -10,8 +10,9 @@ use lib.ListN.{length}
 use Rattle.board.specs.Answers.{Answer, gives, refuses, passed, _then_, refuseUnless}
 use Rattle.board.specs.Boards.{Board}
 use Rattle.board.specs.declared.Refusal.{Refusal}
-use Rattle.board.specs.Checks.{sizeCheck, givensCheck, lengthCheck}
+use Rattle.board.specs.Checks.{givensCheck, lengthCheck}
 use Rattle.board.proofs.Answers.{refuses-none, then-gives, unless-gives}
+use Rattle.rule.specs.Rule.{conwayRule, gridCheck}
 use Rattle.writer.specs.Writing.{textLength, textOver}
 use Rattle.score_table.specs.ScoreTable.{tableSize}
 use Rattle.solver.specs.Jobs.{finished, infeasible}
@@ -24,10 +25,10 @@ use Rattle.setter.specs.declared.Shown as Shown
 unless-passed : (t : Bool) (n : ℕ) {values : List ℕ} → refuseUnless t n ≡ gives values → gives values ≡ passed
 unless-passed t n e = sym e ∙ rw (unless-gives t n e) refl
 
-check-passed : (w h : ℕ) (g t β : List ℕ) {values : List ℕ} → solveCheck w h g t β ≡ gives values → solveCheck w h g t β ≡ passed
+check-passed : (w h : ℕ) (g t β : List ℕ) {values : List ℕ} → solveCheck conwayRule w h g t β ≡ gives values → solveCheck conwayRule w h g t β ≡ passed
 unfolding solveCheck memoryCheck
 check-passed w h g t β e =
-    let a = then-gives (sizeCheck w h) (givensCheck w h g then memoryCheck w h t β) e in
+    let a = then-gives (gridCheck conwayRule w h) (givensCheck w h g then memoryCheck w h t β) e in
     let b = then-gives (givensCheck w h g) (memoryCheck w h t β) (a .1) in
     let c = then-gives (lengthCheck 5 w h β) (refuseUnless (leb (tableSize w h) (length t)) 6) (b .1) in
     e ∙ unless-passed (leb (tableSize w h) (length t)) 6 (c .1)
@@ -36,25 +37,25 @@ check-passed w h g t β e =
 apart : {n : ℕ} → finished n ≡ infeasible → ⊥
 apart e = let z : _≡_ {A = ℕ} 0 1 = cc e in omega arith
 
-ends-board : {w h : ℕ} {g β β′ : List ℕ} {score : ℕ} → Ends w h g β (finished score) β′ → Board w h β′
+ends-board : {w h : ℕ} {g β β′ : List ℕ} {score : ℕ} → Ends conwayRule w h g β (finished score) β′ → Board w h β′
 ends-board (best o e) = o .solution .grid
 ends-board (none n e k) = absurd (apart e)
 
-module _ {w h : ℕ} {g t β t′ β′ : List ℕ} {score : ℕ} (c : Comes (solveCheck w h g t β) w h g t β (finished score) t′ β′) where
+module _ {w h : ℕ} {g t β t′ β′ : List ℕ} {score : ℕ} (c : Comes (solveCheck conwayRule w h g t β) conwayRule w h g t β (finished score) t′ β′) where
   comes-board : Board w h β′
-  comes-board = go (solveCheck w h g t β) refl
+  comes-board = go (solveCheck conwayRule w h g t β) refl
     where
-      go : (a : Answer) → solveCheck w h g t β ≡ a → Board w h β′
+      go : (a : Answer) → solveCheck conwayRule w h g t β ≡ a → Board w h β′
       go (refuses n values) e = absurd (refuses-none (sym (c .turned n values e .0)))
       go (gives values) e = ends-board (c .ended (check-passed w h g t β e))
 
-module _ {w h : ℕ} {g t β t′ β′ : List ℕ} {v : Solved.Solved} (S : Solves w h g t β v t′ β′) where
+module _ {w h : ℕ} {g t β t′ β′ : List ℕ} {v : Solved.Solved} (S : Solves conwayRule w h g t β v t′ β′) where
   pub shown-board : {score : ℕ} → v ≡ Solved.Solved.Best score → Board w h β′
   shown-board e = comes-board (rw (ap solvedSays e) at (S .comes))
 
-module _ (cells : List ℕ) {w h : ℕ} {g t β t′ β′ : List ℕ} {v : Solved.Solved} (given : g ≡ map givenOf cells) (S : Solves w h g t β v t′ β′) where
+module _ (cells : List ℕ) {w h : ℕ} {g t β t′ β′ : List ℕ} {v : Solved.Solved} (given : g ≡ map givenOf cells) (S : Solves conwayRule w h g t β v t′ β′) where
   -- what solving answered, in other words
-  says : {a : Answer} → solvedSays v ≡ a → Comes (solveCheck w h (map givenOf cells) t β) w h (map givenOf cells) t β a t′ β′
+  says : {a : Answer} → solvedSays v ≡ a → Comes (solveCheck conwayRule w h (map givenOf cells) t β) conwayRule w h (map givenOf cells) t β a t′ β′
   says e = rw (given, e) at (S .comes)
 
   module _ {o o′ : List ℕ} where

@@ -7,6 +7,7 @@ use Prim.Native.Nat.{ℕ, _*_, _≤_}
 use lib.Dec.{eqb, leb}
 use lib.ListN.{length, take}
 use Rattle.board.specs.Answers.{Answer, gives, refuses, refusalSays, _then_, refuseUnless}
+use Rattle.rule.specs.Rule.{conwayRule}
 use Rattle.writer.specs.Writing.{textLength, textOver}
 use Rattle.plaintext.specs.Reading.{judged, rowsOf, widthOf, cellsOf, readRule}
 use Rattle.solver.specs.Jobs.{finished, infeasible}
@@ -32,9 +33,9 @@ shownSays (Best score letters) = finished score
 shownSays Infeasible = infeasible
 shownSays (Refused r) = refusalSays r
 
--- "as .. opening and working": the grid that cells give is solved; and with a score, the output starts with the best board's text
+-- "as .. opening and working": the grid that cells give is solved under Conway's rule; and with a score, the output starts with the best board's text
 pub record SolvesCells (w h : ℕ) (cells table board output : List ℕ) (r : Shown) (table′ board′ output′ : List ℕ) : Type 0 where
-  pub comes : Comes (solveCheck w h (map givenOf cells) table board) w h (map givenOf cells) table board (shownSays r) table′ board′
+  pub comes : Comes (solveCheck conwayRule w h (map givenOf cells) table board) conwayRule w h (map givenOf cells) table board (shownSays r) table′ board′
   pub shown : (score letters : ℕ) → r ≡ Best score letters → (letters ≡ textLength w h) × (output′ ≡ textOver w h board′ output)
 
 -- A text turned away writes nothing. Otherwise its cells are solved, in as much of the board as they take; and the text that is shown fits.

@@ -69,7 +69,7 @@ fn solve_text(
     }
 }
 
-// Solves the grid that a board's cells give.
+// Solves the grid that a board's cells give, under Conway's rule.
 fn solve_cells(
     w: usize,
     h: usize,
@@ -82,7 +82,7 @@ fn solve_cells(
     ensures { λ r. ⌜ SolvesCells w h (now (cells .entry)) (now (table .entry)) (now (board .entry)) (now (output .entry)) r (now (table .exit)) (now (board .exit)) (now (output .exit)) ⌝ }
 {
     give_live(cells);
-    match runner::solve(w, h, cells, table, board) {
+    match runner::solve(rule::conway(), w, h, cells, table, board) {
         Solved::Best(score) => show(w, h, board, score, output),
         Solved::Infeasible => Shown::Infeasible,
         Solved::Refused(r) => Shown::Refused(r),

@@ -1,4 +1,4 @@
--- Three rows agree by a table that holds Conway's rule exactly as by the rule, so an entry and a choice by the table are those by the rule.
+-- Three rows agree by a table that holds a rule's next states exactly as by the rule, so an entry and a choice by the table are those by the rule.
 -- Assumes nothing.
 use mathlib.Core.Path.{_≡_, _∙_, sym, ap, fun-ext}
 use mathlib.Core.Bool.{Bool}
@@ -11,7 +11,7 @@ use lib.ListN.{set}
 use Rattle.board.specs.Search.{allBelow}
 use Rattle.elimination.specs.Kind.{Kind, choose, entry}
 use Rattle.elimination.specs.Sums.{sumKind}
-use Rattle.rule.specs.Rule.{Conway, conway, entryOf}
+use Rattle.rule.specs.Rule.{Holds, entryOf}
 use Rattle.life.specs.Plane.{nine}
 use Rattle.life.specs.Rows.{cellOf, becomes, stepsTo, agree}
 use Rattle.score_table.specs.ScoreTable.{rules, kindOf, readsOf, tableSize, rowsAfter, rowA, rowB, unitPlace, unitEntry, rowChoice}
@@ -36,25 +36,25 @@ nine-small w a b c j =
       cell-small w c (sucℤ (pos j)),
     )
 
-module _ (table : List ℕ) (C : Conway table) where
-  agree-same : (w a b c : ℕ) → agree (entryOf table) w a b c ≡ agree conway w a b c
+module _ (next : ℕ → ℕ) (table : List ℕ) (H : Holds next table) where
+  agree-same : (w a b c : ℕ) → agree (entryOf table) w a b c ≡ agree next w a b c
   unfolding stepsTo becomes
   agree-same w a b c =
-      ap (λ (f : ℕ → Bool). allBelow f (w + 2)) (fun-ext λ j. ap (λ (x : ℕ). eqb x (cellOf w b (pos j))) (C .entry _ (nine-small w a b c j)))
+      ap (λ (f : ℕ → Bool). allBelow f (w + 2)) (fun-ext λ j. ap (λ (x : ℕ). eqb x (cellOf w b (pos j))) (H .entry _ (nine-small w a b c j)))
 
-  kind-same : (w h : ℕ) (g : List ℕ) → kindOf (entryOf table) w h g ≡ kindOf conway w h g
+  kind-same : (w h : ℕ) (g : List ℕ) → kindOf (entryOf table) w h g ≡ kindOf next w h g
   kind-same w h g = ap (λ (f : ℕ → ℕ → ℕ → Bool). sumKind (rules f w (λ k. (h - suc k) * w) g)) (fun-ext λ a. fun-ext λ b. fun-ext λ c. agree-same w a b c)
 
   module _ (w h : ℕ) (g t : List ℕ) (M : Memory w h g t) where
     -- a unit of filling
-    pub filled : (u : ℕ) → u < tableSize w h → fillWrites (entryOf table) w h u g t ≡ set t (unitPlace w h u) (unitEntry conway w h g t u)
+    pub filled : (u : ℕ) → u < tableSize w h → fillWrites (entryOf table) w h u g t ≡ set t (unitPlace w h u) (unitEntry next w h g t u)
     unfolding unitEntry
     filled u l =
         sym (fill-done w h g t (entryOf table) u (lent-fits w h g t M) l)
         ∙ ap (λ (K : Kind ℕ). set t (unitPlace w h u) (entry K (rowsAfter w u) (rowA w u) (rowB w u) (readsOf w t (h - rowsAfter w u + 1) (rowB w u)))) (kind-same w h g)
 
     -- the choice of a row
-    pub picked : (r a b : ℕ) → r < h → a < 2 ^ w → b < 2 ^ w → rowPicked (entryOf table) w h r a b g t ≡ rowChoice conway w h g t r a b
+    pub picked : (r a b : ℕ) → r < h → a < 2 ^ w → b < 2 ^ w → rowPicked (entryOf table) w h r a b g t ≡ rowChoice next w h g t r a b
     unfolding rowChoice
     picked r a b l m n =
         picked-choice w h g t (entryOf table) r a b (lent-fits w h g t M) l m n

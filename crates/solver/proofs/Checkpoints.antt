@@ -1,4 +1,4 @@
--- What the tests of seven numbers show one after the other, and that the job of seven numbers that fit has those numbers.
+-- What the tests of nine numbers show one after the other, and that the job of nine numbers that fit has those numbers.
 -- Assumes nothing.
 use mathlib.Core.Path.{_≡_, refl}
 use mathlib.Core.Bool.{Bool, true, false, _&&_}
@@ -11,26 +11,31 @@ use borrow.Author.Tests.{ltb-true}
 use lib.Dec.{ltb}
 use lib.Pow.{pow-pos}
 use Rattle.board.specs.Answers.{refuses, refuseUnless, _then_}
-use Rattle.board.specs.Boards.{among, Sized}
+use Rattle.board.specs.Boards.{among}
 use Rattle.board.specs.Checks.{sizeCheck}
 use Rattle.board.proofs.Tests.{among-yes}
+use Rattle.rule.specs.Rule.{ruleFits, ruleCheck, gridCheck}
+use Rattle.rule.specs.declared.Rule.{Rule}
+use Rattle.rule.proofs.Rules.{allowed-fits}
 use Rattle.score_table.specs.ScoreTable.{tableSize}
 use Rattle.solver.specs.Jobs.{unitsFit, rowsChosen, checkpointFits, stageOf, jobOf, jobSays, checkpointSays}
 use Rattle.solver.specs.declared.Checkpoint.{Checkpoint}
-use Rattle.solver.proofs.Fits.{RowsFit, UnitsFit, runs, ends, fails, units-at, numbers-at}
+use Rattle.solver.proofs.Fits.{Frame, RowsFit, UnitsFit, runs, ends, fails, units-at, numbers-at}
 
--- ---- the size
-pub size-fits : {w h : ℕ} → Sized w h → among 10 w && among 60 h ≡ true
-size-fits {w} {h} s = rw (among-yes 10 w (s .some-column) (s .narrow), among-yes 60 h (s .some-row) (s .low))
+-- ---- the size and the rule
+pub frame-fits : {rule : Rule} {w h : ℕ} → Frame rule w h → among 10 w && among 60 h && ruleFits rule ≡ true
+frame-fits {rule} {w} {h} z =
+    rw (among-yes 10 w (z .size .some-column) (z .size .narrow), among-yes 60 h (z .size .some-row) (z .size .low)) (allowed-fits rule (z .allowed))
 
-pub size-misfits : (w h : ℕ) {n : ℕ} {vs : List ℕ} → sizeCheck w h ≡ refuses n vs → among 10 w && among 60 h ≡ false
-unfolding sizeCheck
-size-misfits w h {n} {vs} e = go (among 10 w) (among 60 h) e
+pub frame-misfits : (rule : Rule) (w h : ℕ) {n : ℕ} {vs : List ℕ} → gridCheck rule w h ≡ refuses n vs → among 10 w && among 60 h && ruleFits rule ≡ false
+unfolding gridCheck sizeCheck ruleCheck
+frame-misfits rule w h {n} {vs} e = go (among 10 w) (among 60 h) (ruleFits rule) e
   where
-    go : (s t : Bool) → (refuseUnless s 1 then refuseUnless t 2) ≡ refuses n vs → s && t ≡ false
-    go true true q = absurd (let z : _≡_ {A = ℕ} 0 1 = cc in omega arith)
-    go true false q = refl
-    go false t q = refl
+    go : (s t u : Bool) → ((refuseUnless s 1 then refuseUnless t 2) then refuseUnless u 13) ≡ refuses n vs → s && t && u ≡ false
+    go true true true q = absurd (let z : _≡_ {A = ℕ} 0 1 = cc in omega arith)
+    go true true false q = refl
+    go true false u q = refl
+    go false t u q = refl
 
 -- ---- the rows
 -- a shift by the width leaves nothing of a row, and something of any greater number
@@ -50,7 +55,7 @@ chosen-le w h units mark e = go mark (units-at w h units mark e)
     go mark (ends q) = omega arith
     go mark (fails q) = omega arith
 
--- ---- the job of seven numbers
+-- ---- the job of nine numbers
 -- with no row chosen the two rows and the live cells are 0
 record NoRows (above last live : ℕ) : Type 0 where
   over : above ≡ 0

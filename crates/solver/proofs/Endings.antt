@@ -18,7 +18,8 @@ use Rattle.elimination.specs.Kind.{Kind}
 use Rattle.elimination.specs.Endings.{Ending, Laws, total}
 use Rattle.elimination.proofs.Endings.{total-none, total-more}
 use Rattle.elimination.proofs.Sums.{sums-lawful}
-use Rattle.rule.specs.Rule.{conway}
+use Rattle.rule.specs.Rule.{Allowed, nextUnder}
+use Rattle.rule.specs.declared.Rule.{Rule}
 use Rattle.life.specs.Rows.{rowOf, digitIn, agree, RowsAgree}
 use Rattle.life.proofs.OnPlane.{place-within}
 use Rattle.life.proofs.Theorems.{rows-life}
@@ -31,15 +32,15 @@ use Rattle.score_table.proofs.Marks.{MarkIs, isDead, isLive, isFree, mark-is, r
 use Rattle.solver.proofs.RowLaws.{row-none, row-past, row-lt, row-digit, Place, place, score-more, score-none}
 
 -- the kind of job, and where a board may end
-abbrev pub kind : ℕ → ℕ → List ℕ → Kind ℕ
-kind w h g = kindOf conway w h g
+abbrev pub kind : Rule → ℕ → ℕ → List ℕ → Kind ℕ
+kind rule w h g = kindOf (nextUnder rule) w h g
 
-abbrev ends : ℕ → ℕ → ℕ → Bool
-ends w a b = agree conway w a b 0 && agree conway w b 0 0
+abbrev ends : Rule → ℕ → ℕ → ℕ → Bool
+ends rule w a b = agree (nextUnder rule) w a b 0 && agree (nextUnder rule) w b 0 0
 
-pub kind-laws : (w h : ℕ) (g : List ℕ) → Sized w h → Laws (kind w h g) h
-kind-laws w h g z =
-    sums-lawful (rules (agree conway w) w (λ k. (h - suc k) * w) g) h w
+pub kind-laws : (rule : Rule) (w h : ℕ) (g : List ℕ) → Sized w h → Laws (kind rule w h g) h
+kind-laws rule w h g z =
+    sums-lawful (rules (agree (nextUnder rule) w) w (λ k. (h - suc k) * w) g) h w
     (record { each = λ k c l. row-worth-le w g ((h - suc k) * w) c; within = omega (arith, mul-le-mul-right w (z .low), z .narrow); absent-above = lit< tt })
 
 -- ---- a mark that is kept, by the two states that a given cell may have
@@ -60,7 +61,7 @@ mark-live : (mark cell : ℕ) → markKept mark cell ≡ true → mark ≡ 2 →
 unfolding markKept
 mark-live mark cell k e = eqb-true cell 1 (rw (ne-eqb mark 1 (omega arith), eq-eqb mark 2 e) at k)
 
-module _ {w h : ℕ} {board : List ℕ} (B : Board w h board) where
+module _ {rule : Rule} (allowed : Allowed rule) {w h : ℕ} {board : List ℕ} (B : Board w h board) where
   abbrev row : ℕ → ℕ
   row r = rowOf w h board r
 
@@ -71,35 +72,35 @@ module _ {w h : ℕ} {board : List ℕ} (B : Board w h board) where
 
   -- ---- the rows agree, in the order in which they are chosen
   record Agrees : Type 0 where
-    chosen : (r : ℕ) → r < h → agree conway w (over r) (row r) (row (suc r)) ≡ true
-    final : ends w (over h) (row h) ≡ true
+    chosen : (r : ℕ) → r < h → agree (nextUnder rule) w (over r) (row r) (row (suc r)) ≡ true
+    final : ends rule w (over h) (row h) ≡ true
 
-  agrees-of : RowsAgree conway w h board → Agrees
+  agrees-of : RowsAgree (nextUnder rule) w h board → Agrees
   agrees-of A = record { chosen = chosen; final = final h refl }
     where
-      chosen : (r : ℕ) → r < h → agree conway w (over r) (row r) (row (suc r)) ≡ true
+      chosen : (r : ℕ) → r < h → agree (nextUnder rule) w (over r) (row r) (row (suc r)) ≡ true
       chosen zero l = rw (row-none w h board) (A .first)
       chosen (suc r) l = rw (add-one r, add-two r) at (A .each r (omega arith))
 
-      final : (i : ℕ) → i ≡ h → ends w (over i) (row i) ≡ true
+      final : (i : ℕ) → i ≡ h → ends rule w (over i) (row i) ≡ true
       final zero e = absurd (omega (arith, B .size .some-row))
       final (suc i) e =
           and-true (rw (add-one i, add-two i, row-past w h board (suc (suc i)) (omega arith)) at (A .each i (omega arith)))
-          (subst (λ (x : ℕ). agree conway w (row x) 0 0 ≡ true) (sym e) (A .last))
+          (subst (λ (x : ℕ). agree (nextUnder rule) w (row x) 0 0 ≡ true) (sym e) (A .last))
 
-  rows-agree : Agrees → RowsAgree conway w h board
+  rows-agree : Agrees → RowsAgree (nextUnder rule) w h board
   rows-agree A = record {
     first = rw (row-none w h board) at (A .chosen 0 (B .size .some-row));
     each = λ r l. rw (add-one r, add-two r) (each r l);
-    last = and-right (agree conway w (over h) (row h) 0) (agree conway w (row h) 0 0) (A .final);
+    last = and-right (agree (nextUnder rule) w (over h) (row h) 0) (agree (nextUnder rule) w (row h) 0 0) (A .final);
   }
     where
-      each : (r : ℕ) → r < h → agree conway w (row r) (row (suc r)) (row (suc (suc r))) ≡ true
+      each : (r : ℕ) → r < h → agree (nextUnder rule) w (row r) (row (suc r)) (row (suc (suc r))) ≡ true
       each r l =
           ⊎-elim
           (λ (e : suc r ≡ h).
           rw (row-past w h board (suc (suc r)) (omega arith))
-          (subst (λ (x : ℕ). agree conway w (over x) (row x) 0 ≡ true) (sym e) (and-left (agree conway w (over h) (row h) 0) (agree conway w (row h) 0 0) (A .final))))
+          (subst (λ (x : ℕ). agree (nextUnder rule) w (over x) (row x) 0 ≡ true) (sym e) (and-left (agree (nextUnder rule) w (over h) (row h) 0) (agree (nextUnder rule) w (row h) 0 0) (A .final))))
           (λ (q : suc r < h). A .chosen (suc r) q) (eq-or-lt-of-le l)
 
   -- ---- every row keeps its givens
@@ -129,46 +130,46 @@ module _ {w h : ℕ} {board : List ℕ} (B : Board w h board) where
     }
 
     -- ---- endings
-    ends-of : Agrees → RowsKept → (k r : ℕ) → r + k ≡ h → Ending (kind w h g) k (over r) (row r) (nextRows w h board r k)
+    ends-of : Agrees → RowsKept → (k r : ℕ) → r + k ≡ h → Ending (kind rule w h g) k (over r) (row r) (nextRows w h board r k)
     unfolding nextRows
-    ends-of A K zero r e = let z : h ≡ r = omega arith in subst (λ (x : ℕ). ends w (over x) (row x) ≡ true) z (A .final)
+    ends-of A K zero r e = let z : h ≡ r = omega arith in subst (λ (x : ℕ). ends rule w (over x) (row x) ≡ true) z (A .final)
     ends-of A K (suc k) r e =
         let z : h - suc k ≡ r = omega arith in
         (row-lt B (suc r), rw z (and-true (A .chosen r (omega arith)) (K r (omega arith))), ends-of A K k (suc r) (omega arith))
 
     -- and the other way
-    ends-may : (k r : ℕ) → r + k ≡ h → Ending (kind w h g) k (over r) (row r) (nextRows w h board r k)
-        → (i : ℕ) → r ≤ i → i < h → agree conway w (over i) (row i) (row (suc i)) && rowKept w g (i * w) (row (suc i)) ≡ true
+    ends-may : (k r : ℕ) → r + k ≡ h → Ending (kind rule w h g) k (over r) (row r) (nextRows w h board r k)
+        → (i : ℕ) → r ≤ i → i < h → agree (nextUnder rule) w (over i) (row i) (row (suc i)) && rowKept w g (i * w) (row (suc i)) ≡ true
     unfolding nextRows
     ends-may zero r e E i l m = absurd (omega arith)
     ends-may (suc k) r e E i l m =
         ⊎-elim
         (λ (q : r ≡ i).
         let z : h - suc k ≡ r = omega arith in
-        subst (λ (x : ℕ). agree conway w (over x) (row x) (row (suc x)) && rowKept w g (x * w) (row (suc x)) ≡ true) q (rw z at (E .1)))
+        subst (λ (x : ℕ). agree (nextUnder rule) w (over x) (row x) (row (suc x)) && rowKept w g (x * w) (row (suc x)) ≡ true) q (rw z at (E .1)))
         (λ (q : r < i). ends-may k (suc r) (omega arith) (E .2) i q m) (eq-or-lt-of-le l)
 
-    ends-final : (k r : ℕ) → r + k ≡ h → Ending (kind w h g) k (over r) (row r) (nextRows w h board r k) → ends w (over h) (row h) ≡ true
+    ends-final : (k r : ℕ) → r + k ≡ h → Ending (kind rule w h g) k (over r) (row r) (nextRows w h board r k) → ends rule w (over h) (row h) ≡ true
     unfolding nextRows
-    ends-final zero r e E = let z : r ≡ h = omega arith in subst (λ (x : ℕ). ends w (over x) (row x) ≡ true) z E
+    ends-final zero r e E = let z : r ≡ h = omega arith in subst (λ (x : ℕ). ends rule w (over x) (row x) ≡ true) z E
     ends-final (suc k) r e E = ends-final k (suc r) (omega arith) (E .2)
 
     -- a board is an ending below two dead rows exactly when it is a solution
-    pub solution-ends : Solution w h g board → Ending (kind w h g) h 0 0 (allRows w h board)
+    pub solution-ends : Solution rule w h g board → Ending (kind rule w h g) h 0 0 (allRows w h board)
     solution-ends S =
-        subst (λ (x : ℕ). Ending (kind w h g) h 0 x (allRows w h board)) (row-none w h board)
-        (ends-of (agrees-of (rows-life w h board B .0 (S .still))) (kept-of (S .keeps)) h 0 (omega arith))
+        subst (λ (x : ℕ). Ending (kind rule w h g) h 0 x (allRows w h board)) (row-none w h board)
+        (ends-of (agrees-of (rows-life rule allowed w h board B .0 (S .still))) (kept-of (S .keeps)) h 0 (omega arith))
 
-    pub ends-solution : Ending (kind w h g) h 0 0 (allRows w h board) → Solution w h g board
+    pub ends-solution : Ending (kind rule w h g) h 0 0 (allRows w h board) → Solution rule w h g board
     ends-solution E =
-        let E₀ = subst (λ (x : ℕ). Ending (kind w h g) h 0 x (allRows w h board)) (sym (row-none w h board)) E in
+        let E₀ = subst (λ (x : ℕ). Ending (kind rule w h g) h 0 x (allRows w h board)) (sym (row-none w h board)) E in
         let m = ends-may h 0 (omega arith) E₀ in record {
           grid = B;
-          still = rows-life w h board B .1 (rows-agree (record {
-            chosen = λ r l. and-left (agree conway w (over r) (row r) (row (suc r))) (rowKept w g (r * w) (row (suc r))) (m r (omega arith) l);
+          still = rows-life rule allowed w h board B .1 (rows-agree (record {
+            chosen = λ r l. and-left (agree (nextUnder rule) w (over r) (row r) (row (suc r))) (rowKept w g (r * w) (row (suc r))) (m r (omega arith) l);
             final = ends-final h 0 (omega arith) E₀;
           }));
-          keeps = keeps-of (λ r l. and-right (agree conway w (over r) (row r) (row (suc r))) (rowKept w g (r * w) (row (suc r))) (m r (omega arith) l));
+          keeps = keeps-of (λ r l. and-right (agree (nextUnder rule) w (over r) (row r) (row (suc r))) (rowKept w g (r * w) (row (suc r))) (m r (omega arith) l));
         }
 
     -- ---- what the rows are worth
@@ -177,18 +178,18 @@ module _ {w h : ℕ} {board : List ℕ} (B : Board w h board) where
     next-length zero r = refl
     next-length (suc k) r = ap suc (next-length k (suc r))
 
-    rows-total : (k r : ℕ) → r + k ≡ h → score w h g board ≡ score w r g board + total (kind w h g) (nextRows w h board r k)
+    rows-total : (k r : ℕ) → r + k ≡ h → score w h g board ≡ score w r g board + total (kind rule w h g) (nextRows w h board r k)
     unfolding nextRows
     rows-total zero r l =
         let e : h ≡ r = omega arith in
-        omega (arith, total-none (kind w h g), ap (λ (x : ℕ). score w x g board) e)
+        omega (arith, total-none (kind rule w h g), ap (λ (x : ℕ). score w x g board) e)
     rows-total (suc k) r l =
         let c = row (suc r) in
         let cs = nextRows w h board (suc r) k in
         let e : h - suc (length cs) ≡ r = omega (arith, next-length k (suc r)) in
-        let m : total (kind w h g) (c ∷ cs) ≡ rowWorth w g (r * w) c + total (kind w h g) cs =
-        total-more (kind w h g) c cs ∙ ap (λ (x : ℕ). rowWorth w g (x * w) c + total (kind w h g) cs) e in
+        let m : total (kind rule w h g) (c ∷ cs) ≡ rowWorth w g (r * w) c + total (kind rule w h g) cs =
+        total-more (kind rule w h g) c cs ∙ ap (λ (x : ℕ). rowWorth w g (x * w) c + total (kind rule w h g) cs) e in
         omega (arith, rows-total k (suc r) (omega arith), score-more B g r (omega arith), m)
 
-    pub total-score : score w h g board ≡ total (kind w h g) (allRows w h board)
+    pub total-score : score w h g board ≡ total (kind rule w h g) (allRows w h board)
     total-score = omega (arith, rows-total h 0 (omega arith), score-none w g board)

@@ -13,8 +13,11 @@ use Rattle.board.specs.Answers.{Answer, gives, refuses, refuseUnless}
 use Rattle.board.specs.Boards.{among, Sized}
 use Rattle.board.proofs.Answers.{refuses-none, then-gives, unless-gives}
 use Rattle.board.proofs.Tests.{and-left, and-right, among-yes, among-in}
+use Rattle.rule.specs.Rule.{Allowed, ruleFits}
+use Rattle.rule.specs.declared.Rule.{Rule}
+use Rattle.rule.proofs.Rules.{fits-allowed, allowed-fits}
 use Rattle.score_table.specs.ScoreTable.{tableSize}
-use Rattle.solver.specs.Jobs.{unitsFit, rowsChosen, rowsFit, checkpointFits, numbersOf, checkpointSays, jobSays, stageFits, jobFits, stageOf, jobOf, pauseRule, resumeRule, pausedSays, resumedSays}
+use Rattle.solver.specs.Jobs.{ruleOf, unitsFit, rowsChosen, rowsFit, checkpointFits, numbersOf, checkpointSays, jobSays, stageFits, jobFits, stageOf, jobOf, pauseRule, resumeRule, pausedSays, resumedSays}
 use Rattle.solver.specs.Calls.{RoundTrip}
 use Rattle.solver.specs.Demand.{Pausable}
 use Rattle.solver.specs.declared.Stage.{Stage}
@@ -78,9 +81,14 @@ units-at w h units (suc (suc (suc m))) e =
     let other : (n : ℕ) → n ≤ 2 → eqb (suc (suc (suc m))) n ≡ false = λ n l. ne-eqb (suc (suc (suc m))) n (λ q. omega arith) in
     absurd (true≢false (sym (rw (other 0 (omega arith), other 1 (omega arith), other 2 (omega arith)) at e)))
 
--- ---- the seven numbers
+-- ---- the nine numbers
+-- a size and a rule that opening takes
+pub record Frame (rule : Rule) (w h : ℕ) : Type 0 where
+  pub size : Sized w h
+  pub allowed : Allowed rule
+
 pub record NumbersFit (t : Checkpoint) : Type 0 where
-  pub size : Sized (t .width) (t .height)
+  pub frame : Frame (ruleOf t) (t .width) (t .height)
   pub over : t .above < 2 ^ t .width
   pub below : t .last < 2 ^ t .width
   pub units : UnitsFit (t .width) (t .height) (t .units) (t .mark)
@@ -89,11 +97,14 @@ pub record NumbersFit (t : Checkpoint) : Type 0 where
 pub numbers-of : (t : Checkpoint) → NumbersFit t → checkpointFits t ≡ true
 unfolding checkpointFits
 numbers-of t f =
+    let z = f .frame .size in
     and-true
     (and-true
     (and-true
     (and-true
-    (and-true (among-yes 10 (t .width) (f .size .some-column) (f .size .narrow)) (among-yes 60 (t .height) (f .size .some-row) (f .size .low)))
+    (and-true
+    (and-true (among-yes 10 (t .width) (z .some-column) (z .narrow)) (among-yes 60 (t .height) (z .some-row) (z .low)))
+    (allowed-fits (ruleOf t) (f .frame .allowed)))
     (lt-ltb (t .above) (2 ^ t .width) (f .over))) (lt-ltb (t .last) (2 ^ t .width) (f .below))) (units-of (f .units))) (rows-of (f .rows))
 
 pub numbers-at : (t : Checkpoint) → checkpointFits t ≡ true → NumbersFit t
@@ -101,21 +112,26 @@ unfolding checkpointFits
 numbers-at t e =
     let a = among 10 (t .width) in
     let b = among 60 (t .height) in
+    let q = ruleFits (ruleOf t) in
     let c = ltb (t .above) (2 ^ t .width) in
     let d = ltb (t .last) (2 ^ t .width) in
     let u = unitsFit (t .width) (t .height) (t .units) (t .mark) in
     let r = rowsFit (t .width) (rowsChosen (t .width) (t .height) (t .units) (t .mark)) (t .above) (t .last) (t .live) in
-    let p5 = and-left (a && b && c && d && u) r e in
-    let p4 = and-left (a && b && c && d) u p5 in
-    let p3 = and-left (a && b && c) d p4 in
-    let p2 = and-left (a && b) c p3 in
+    let p6 = and-left (a && b && q && c && d && u) r e in
+    let p5 = and-left (a && b && q && c && d) u p6 in
+    let p4 = and-left (a && b && q && c) d p5 in
+    let p3 = and-left (a && b && q) c p4 in
+    let p2 = and-left (a && b) q p3 in
     let wide = among-in 10 (t .width) (and-left a b p2) in
     let tall = among-in 60 (t .height) (and-right a b p2) in record {
-      size = record { some-column = wide .0; narrow = wide .1; some-row = tall .0; low = tall .1 };
-      over = ltb-true (t .above) (2 ^ t .width) (and-right (a && b) c p3);
-      below = ltb-true (t .last) (2 ^ t .width) (and-right (a && b && c) d p4);
-      units = units-at (t .width) (t .height) (t .units) (t .mark) (and-right (a && b && c && d) u p5);
-      rows = rows-at (t .width) (rowsChosen (t .width) (t .height) (t .units) (t .mark)) (t .above) (t .last) (t .live) (and-right (a && b && c && d && u) r e);
+      frame = record {
+        size = record { some-column = wide .0; narrow = wide .1; some-row = tall .0; low = tall .1 };
+        allowed = fits-allowed (ruleOf t) (and-right (a && b) q p3);
+      };
+      over = ltb-true (t .above) (2 ^ t .width) (and-right (a && b && q) c p4);
+      below = ltb-true (t .last) (2 ^ t .width) (and-right (a && b && q && c) d p5);
+      units = units-at (t .width) (t .height) (t .units) (t .mark) (and-right (a && b && q && c && d) u p6);
+      rows = rows-at (t .width) (rowsChosen (t .width) (t .height) (t .units) (t .mark)) (t .above) (t .last) (t .live) (and-right (a && b && q && c && d && u) r e);
     }
 
 -- ---- a job, by its stage
@@ -138,22 +154,22 @@ Fits w h u (Stage.Choosing above last live) = Choosing w h u above last live
 Fits w h u (Stage.Finished above last score) = Finished w h u above last score
 Fits w h u Stage.Infeasible = u ≡ tableSize w h + 1
 
-abbrev pub jobAt : ℕ → ℕ → ℕ → Stage → Job
-jobAt w h u s = record { width = w; height = h; units = u; stage = s }
+abbrev pub jobAt : Rule → ℕ → ℕ → ℕ → Stage → Job
+jobAt rule w h u s = record { rule = rule; width = w; height = h; units = u; stage = s }
 
 -- no row is chosen
 no-rows : {w k : ℕ} → RowsFit w k 0 0 0
 no-rows = record { few = omega arith; none = λ q. refl; one = λ q. refl }
 
-numbers-fit : (w h u : ℕ) (s : Stage) → Sized w h → Fits w h u s → NumbersFit (numbersOf (jobAt w h u s))
+numbers-fit : (rule : Rule) (w h u : ℕ) (s : Stage) → Frame rule w h → Fits w h u s → NumbersFit (numbersOf (jobAt rule w h u s))
 unfolding rowsChosen
-numbers-fit w h u Stage.Filling z f = record { size = z; over = pow-pos w; below = pow-pos w; units = runs (omega arith); rows = no-rows }
-numbers-fit w h u (Stage.Choosing above last live) z f =
-    record { size = z; over = f .over; below = f .below; units = runs (f .until); rows = f .rows }
-numbers-fit w h u (Stage.Finished above last score) z f =
+numbers-fit rule w h u Stage.Filling z f = record { frame = z; over = pow-pos w; below = pow-pos w; units = runs (omega arith); rows = no-rows }
+numbers-fit rule w h u (Stage.Choosing above last live) z f =
+    record { frame = z; over = f .over; below = f .below; units = runs (f .until); rows = f .rows }
+numbers-fit rule w h u (Stage.Finished above last score) z f =
     let e : u - tableSize w h ≡ h = omega (arith, f .whole) in
-    record { size = z; over = f .over; below = f .below; units = ends (f .whole); rows = rw e (f .rows) }
-numbers-fit w h u Stage.Infeasible z f = record { size = z; over = pow-pos w; below = pow-pos w; units = fails f; rows = no-rows }
+    record { frame = z; over = f .over; below = f .below; units = ends (f .whole); rows = rw e (f .rows) }
+numbers-fit rule w h u Stage.Infeasible z f = record { frame = z; over = pow-pos w; below = pow-pos w; units = fails f; rows = no-rows }
 
 stage-fits : (w h u : ℕ) (s : Stage) → Fits w h u s → stageFits w h u s ≡ true
 stage-fits w h u Stage.Filling f = lt-ltb u (tableSize w h) f
@@ -161,31 +177,31 @@ stage-fits w h u (Stage.Choosing above last live) f = le-leb (tableSize w h) u (
 stage-fits w h u (Stage.Finished above last score) f = refl
 stage-fits w h u Stage.Infeasible f = refl
 
-pub fits-of : (w h u : ℕ) (s : Stage) → Sized w h → Fits w h u s → jobFits (jobAt w h u s) ≡ true
+pub fits-of : (rule : Rule) (w h u : ℕ) (s : Stage) → Frame rule w h → Fits w h u s → jobFits (jobAt rule w h u s) ≡ true
 unfolding jobFits
-fits-of w h u s z f = and-true (numbers-of (numbersOf (jobAt w h u s)) (numbers-fit w h u s z f)) (stage-fits w h u s f)
+fits-of rule w h u s z f = and-true (numbers-of (numbersOf (jobAt rule w h u s)) (numbers-fit rule w h u s z f)) (stage-fits w h u s f)
 
--- a size, and a stage that fits
-pub record Taken (w h u : ℕ) (s : Stage) : Type 0 where
-  pub size : Sized w h
+-- a size and a rule, and a stage that fits
+pub record Taken (rule : Rule) (w h u : ℕ) (s : Stage) : Type 0 where
+  pub frame : Frame rule w h
   pub stage : Fits w h u s
 
-taken-at : (w h u : ℕ) (s : Stage) → NumbersFit (numbersOf (jobAt w h u s)) → stageFits w h u s ≡ true → Taken w h u s
+taken-at : (rule : Rule) (w h u : ℕ) (s : Stage) → NumbersFit (numbersOf (jobAt rule w h u s)) → stageFits w h u s ≡ true → Taken rule w h u s
 unfolding rowsChosen
-taken-at w h u Stage.Filling f e = record { size = f .size; stage = ltb-true u (tableSize w h) e }
-taken-at w h u (Stage.Choosing above last live) f e =
-    record { size = f .size; stage = record { over = f .over; below = f .below; from = leb-true (tableSize w h) u e; until = go (f .units); rows = f .rows } }
+taken-at rule w h u Stage.Filling f e = record { frame = f .frame; stage = ltb-true u (tableSize w h) e }
+taken-at rule w h u (Stage.Choosing above last live) f e =
+    record { frame = f .frame; stage = record { over = f .over; below = f .below; from = leb-true (tableSize w h) u e; until = go (f .units); rows = f .rows } }
   where
     go : UnitsFit w h u 0 → u < tableSize w h + h
     go (runs l) = l
-taken-at w h u (Stage.Finished above last score) f e =
+taken-at rule w h u (Stage.Finished above last score) f e =
     let q = go (f .units) in
     let k : u - tableSize w h ≡ h = omega arith in
-    record { size = f .size; stage = record { over = f .over; below = f .below; whole = q; rows = rw k at (f .rows) } }
+    record { frame = f .frame; stage = record { over = f .over; below = f .below; whole = q; rows = rw k at (f .rows) } }
   where
     go : UnitsFit w h u 1 → u ≡ tableSize w h + h
     go (ends q) = q
-taken-at w h u Stage.Infeasible f e = record { size = f .size; stage = go (f .units) }
+taken-at rule w h u Stage.Infeasible f e = record { frame = f .frame; stage = go (f .units) }
   where
     go : UnitsFit w h u 2 → u ≡ tableSize w h + 1
     go (fails q) = q
@@ -194,30 +210,40 @@ pub fits-numbers : (j : Job) → jobFits j ≡ true → checkpointFits (numbersO
 unfolding jobFits
 fits-numbers j e = and-left (checkpointFits (numbersOf j)) (stageFits (j .width) (j .height) (j .units) (j .stage)) e
 
-pub fits-at : (j : Job) → jobFits j ≡ true → Taken (j .width) (j .height) (j .units) (j .stage)
+pub fits-at : (j : Job) → jobFits j ≡ true → Taken (j .rule) (j .width) (j .height) (j .units) (j .stage)
 unfolding jobFits
 fits-at j e =
-    taken-at (j .width) (j .height) (j .units) (j .stage) (numbers-at (numbersOf j) (fits-numbers j e))
+    taken-at (j .rule) (j .width) (j .height) (j .units) (j .stage) (numbers-at (numbersOf j) (fits-numbers j e))
     (and-right (checkpointFits (numbersOf j)) (stageFits (j .width) (j .height) (j .units) (j .stage)) e)
 
 -- ---- pausing and resuming
-stage-back : (w h u : ℕ) (s : Stage) → Fits w h u s → stageOf (numbersOf (jobAt w h u s)) ≡ s
+stage-back : (rule : Rule) (w h u : ℕ) (s : Stage) → Fits w h u s → stageOf (numbersOf (jobAt rule w h u s)) ≡ s
 unfolding stageOf
-stage-back w h u Stage.Filling f = rw (lt-ltb u (tableSize w h) f)
-stage-back w h u (Stage.Choosing above last live) f = rw (le-ltb u (tableSize w h) (f .from))
-stage-back w h u (Stage.Finished above last score) f = refl
-stage-back w h u Stage.Infeasible f = refl
+stage-back rule w h u Stage.Filling f = rw (lt-ltb u (tableSize w h) f)
+stage-back rule w h u (Stage.Choosing above last live) f = rw (le-ltb u (tableSize w h) (f .from))
+stage-back rule w h u (Stage.Finished above last score) f = refl
+stage-back rule w h u Stage.Infeasible f = refl
 
 pub job-back : (j : Job) → jobFits j ≡ true → jobOf (numbersOf j) ≡ j
-job-back j e = ap (jobAt (j .width) (j .height) (j .units)) (stage-back (j .width) (j .height) (j .units) (j .stage) (fits-at j e .stage))
+job-back j e = ap (jobAt (j .rule) (j .width) (j .height) (j .units)) (stage-back (j .rule) (j .width) (j .height) (j .units) (j .stage) (fits-at j e .stage))
 
 pub pausable : (j : Job) → jobFits j ≡ true → Pausable j
 unfolding pauseRule resumeRule
 pausable j e = record { taken = e; pauses = rw e; resumes = rw (fits-numbers j e); back = job-back j e }
 
--- the seven numbers of what is said
+-- the nine numbers of what is said
 abbrev heard : List ℕ → Checkpoint
-heard l = record { width = getD l 0 0; height = getD l 1 0; units = getD l 2 0; above = getD l 3 0; last = getD l 4 0; live = getD l 5 0; mark = getD l 6 0 }
+heard l = record {
+  width = getD l 0 0;
+  height = getD l 1 0;
+  units = getD l 2 0;
+  above = getD l 3 0;
+  last = getD l 4 0;
+  live = getD l 5 0;
+  mark = getD l 6 0;
+  births = getD l 7 0;
+  survivals = getD l 8 0;
+}
 
 abbrev given : Answer → List ℕ
 given (gives values) = values

@@ -10,8 +10,8 @@ use borrow.Author.Tests.{leb-false, lt-leb}
 use lib.Dec.{leb}
 use lib.ListN.{length}
 use Rattle.board.specs.Answers.{Answer, gives, refuses, passed, _then_, refuseUnless}
-use Rattle.board.specs.Boards.{Sized}
 use Rattle.board.proofs.Answers.{refuses-none}
+use Rattle.rule.specs.declared.Rule.{Rule}
 use Rattle.elimination.specs.Machine.{advance, Lasts}
 use Rattle.elimination.specs.Job.{ended, done, endMark}
 use Rattle.elimination.proofs.Machine.{advance-suc, after-units}
@@ -23,7 +23,7 @@ use Rattle.solver.specs.Demand.{Call, work, pause, resume, afterWork, af
 use Rattle.solver.specs.declared.Stage.{Stage}
 use Rattle.solver.specs.declared.Job.{Job}
 use Rattle.solver.specs.declared.Checkpoint.{Checkpoint}
-use Rattle.solver.proofs.Fits.{pausable, paused-numbers, job-back}
+use Rattle.solver.proofs.Fits.{Frame, pausable, paused-numbers, job-back}
 use Rattle.solver.proofs.CheckLaws.{Checked, work-checked, lent-of}
 use Rattle.solver.proofs.Machine.{markIn, view, machine, Here, Steps, unit-law, here-fits}
 use Rattle.solver.proofs.Memory.{Run}
@@ -73,18 +73,18 @@ resume-answers t s f fair = record {
 }
 
 -- ---- a list of calls over a machine that lasts `long` units and then says `final`
-module _ {w h : ℕ} (z : Sized w h) (g : List ℕ) (v₀ : Run) (long : ℕ) (final : Answer) (lasts : Lasts (machine w h g) v₀ long)
-    (end : (s : State) → view s ≡ advance (machine w h g) long v₀ → stageSays (s .job .stage) ≡ final) where
+module _ {rule : Rule} {w h : ℕ} (z : Frame rule w h) (g : List ℕ) (v₀ : Run) (long : ℕ) (final : Answer) (lasts : Lasts (machine rule w h g) v₀ long)
+    (end : (s : State) → view s ≡ advance (machine rule w h g) long v₀ → stageSays (s .job .stage) ≡ final) where
   -- the state after m units
   pub record Reached (m : ℕ) (s : State) : Type 0 where
-    pub here : Here w h g s
-    pub is : view s ≡ advance (machine w h g) m v₀
+    pub here : Here rule w h g s
+    pub is : view s ≡ advance (machine rule w h g) m v₀
 
   pub reached-fits : {m : ℕ} {s : State} → Reached m s → jobFits (s .job) ≡ true
   reached-fits {s} R = here-fits z g s (R .here)
 
   pub reached-units : {m : ℕ} {s : State} → Reached m s → s .job .units ≡ min m long
-  reached-units {m} {s} R = ap done (R .is) ∙ after-units (machine w h g) lasts m .done
+  reached-units {m} {s} R = ap done (R .is) ∙ after-units (machine rule w h g) lasts m .done
 
   -- a call that passes
   record Goes (m : ℕ) (r : Result) : Type 0 where
@@ -96,14 +96,14 @@ module _ {w h : ℕ} (z : Sized w h) (g : List ℕ) (v₀ : Run) (long : ℕ) (f
   goes zero m s R = rw (add-zero m) (record { reached = R; says = refl })
   goes (suc n) m s R = go (unitOf g s) (unit-law z g s (R .here)) (goes n (suc m))
     where
-      go : (o : Step) → Steps w h g o s → ((s′ : State) → Reached (suc m) s′ → Goes (suc m + n) (worksOn g n s′)) → Goes (m + suc n) (onStep o s (worksOn g n))
+      go : (o : Step) → Steps rule w h g o s → ((s′ : State) → Reached (suc m) s′ → Goes (suc m + n) (worksOn g n s′)) → Goes (m + suc n) (onStep o s (worksOn g n))
       go (next s′) l ih =
           let e : m + suc n ≡ suc m + n = omega arith in
-          rw e (ih s′ (record { here = l .0; is = l .1 ∙ ap (machine w h g .unit) (R .is) ∙ sym (advance-suc (machine w h g) m v₀) }))
+          rw e (ih s′ (record { here = l .0; is = l .1 ∙ ap (machine rule w h g .unit) (R .is) ∙ sym (advance-suc (machine rule w h g) m v₀) }))
       go spoiled l ih =
-          let b : leb long m ≡ false = sym (after-units (machine w h g) lasts m .ended) ∙ ap ended (sym (R .is)) ∙ l .1 in
-          let q = after-units (machine w h g) lasts m .moves (leb-false long m b) in
-          let e : machine w h g .unit (advance (machine w h g) m v₀) ≡ advance (machine w h g) m v₀ = ap (machine w h g .unit) (sym (R .is)) ∙ l .0 ∙ R .is in
+          let b : leb long m ≡ false = sym (after-units (machine rule w h g) lasts m .ended) ∙ ap ended (sym (R .is)) ∙ l .1 in
+          let q = after-units (machine rule w h g) lasts m .moves (leb-false long m b) in
+          let e : machine rule w h g .unit (advance (machine rule w h g) m v₀) ≡ advance (machine rule w h g) m v₀ = ap (machine rule w h g .unit) (sym (R .is)) ∙ l .0 ∙ R .is in
           absurd (omega (arith, q, ap done e))
 
   goes-answers : (m : ℕ) (values : List ℕ) (lent : State) (r : Result) → Goes m r → WorkAnswers long final (gives values) lent r
@@ -111,8 +111,8 @@ module _ {w h : ℕ} (z : Sized w h) (g : List ℕ) (v₀ : Run) (long : ℕ) (f
       let u = reached-units (G .reached) in record {
         turned = λ n us e. absurd (refuses-none (sym e));
         sound = λ us e. never-refused (r .state .job .stage) (sym (G .says) ∙ e);
-        below = λ c l. G .says ∙ running-says (r .state .job .stage) (ap ended (G .reached .is) ∙ after-units (machine w h g) lasts m .ended ∙ lt-leb long m (omega arith));
-        from = λ c l. G .says ∙ end (r .state) (G .reached .is ∙ after-units (machine w h g) lasts m .stays (omega arith));
+        below = λ c l. G .says ∙ running-says (r .state .job .stage) (ap ended (G .reached .is) ∙ after-units (machine rule w h g) lasts m .ended ∙ lt-leb long m (omega arith));
+        from = λ c l. G .says ∙ end (r .state) (G .reached .is ∙ after-units (machine rule w h g) lasts m .stays (omega arith));
       }
 
   -- a working call, by what its checks say

@@ -10,7 +10,7 @@ use native.Mathlib.Omega.{arith}
 use borrow.Author.Tests.{ltb-true, ltb-false, eqb-true, eqb-false}
 use lib.Dec.{ltb, eqb}
 use lib.ListN.{length, getD, replicate, length-replicate}
-use Rattle.board.specs.Boards.{Sized, Board}
+use Rattle.board.specs.Boards.{Board}
 use Rattle.elimination.specs.Order.{rowsBefore, isWorse, isTied}
 use Rattle.elimination.specs.Candidates.{NoBetterRows}
 use Rattle.elimination.specs.Kind.{Kind}
@@ -20,10 +20,12 @@ use Rattle.elimination.specs.Completion.{writeRows}
 use Rattle.elimination.proofs.Numbers.{lt-or-ge}
 use Rattle.elimination.proofs.Sums.{tied-equal}
 use Rattle.elimination.proofs.Endings.{ending-length}
+use Rattle.rule.specs.declared.Rule.{Rule}
 use Rattle.life.specs.Rows.{rowOf}
 use Rattle.solver.specs.Grid.{Solution, score, Precedes, Optimal}
 use Rattle.solver.specs.Rows.{written}
 use Rattle.solver.specs.Theorems.{nextRows, allRows}
+use Rattle.solver.proofs.Fits.{Frame}
 use Rattle.solver.proofs.Writing.{written-length, written-before, written-after, written-cell, reads-back}
 use Rattle.solver.proofs.RowLaws.{same-number, row-inside, row-none, same-rows}
 use Rattle.solver.proofs.Endings.{kind, solution-ends, ends-solution, total-score}
@@ -108,22 +110,22 @@ module _ (w : ℕ) where
 abbrev pub writtenInto : ℕ → List ℕ → List ℕ → List ℕ
 writtenInto w cs β = writeRows (putRow w) 0 cs β
 
-module _ {w h : ℕ} (z : Sized w h) (g cs : List ℕ) (E : Ending (kind w h g) h 0 0 cs) (β : List ℕ) (size : length β ≡ w * h) where
+module _ {rule : Rule} {w h : ℕ} (z : Frame rule w h) (g cs : List ℕ) (E : Ending (kind rule w h g) h 0 0 cs) (β : List ℕ) (size : length β ≡ w * h) where
   many : 0 + length cs ≡ h
-  many = omega (arith, ending-length (kind w h g) h 0 0 cs E)
+  many = omega (arith, ending-length (kind rule w h g) h 0 0 cs E)
 
   room : (0 + length cs) * w ≤ length β
   room = rw (many, size, mul-comm w h) (omega arith)
 
   into-rows : allRows w h (writtenInto w cs β) ≡ cs
   into-rows =
-      subst (λ (k : ℕ). nextRows w h (writtenInto w cs β) 0 k ≡ cs) (ending-length (kind w h g) h 0 0 cs E)
-      (rows-back w h 0 cs β (ends-rows (kind w h g) h 0 0 cs E) (omega (arith, many)) room)
+      subst (λ (k : ℕ). nextRows w h (writtenInto w cs β) 0 k ≡ cs) (ending-length (kind rule w h g) h 0 0 cs E)
+      (rows-back w h 0 cs β (ends-rows (kind rule w h g) h 0 0 cs E) (omega (arith, many)) room)
 
   into-board : Board w h (writtenInto w cs β)
   into-board =
       let long = rows-length w 0 cs β ∙ size in record {
-        size = z;
+        size = z .size;
         bytes = record {
           long = long;
           states = λ p l. rows-cells w 0 cs β room (λ q m. absurd (omega arith)) p (rw (many, mul-comm h w) (rw long at l));
@@ -149,8 +151,8 @@ rows-at w h β γ (suc k) r e i l m =
     (λ (q : r < i). rows-at w h β γ k (suc r) (cc) i q (omega arith)) (eq-or-lt-of-le l)
 
 -- wherever they are written, the rows make one board
-pub into-same : {w h : ℕ} → Sized w h → (g cs : List ℕ) → Ending (kind w h g) h 0 0 cs → (β : List ℕ) → length β ≡ w * h → writtenInto w cs β ≡ boardOf w h cs
-into-same {w} {h} z g cs E β size =
+pub into-same : {rule : Rule} {w h : ℕ} → Frame rule w h → (g cs : List ℕ) → Ending (kind rule w h g) h 0 0 cs → (β : List ℕ) → length β ≡ w * h → writtenInto w cs β ≡ boardOf w h cs
+into-same {rule} {w} {h} z g cs E β size =
     let rows = into-rows z g cs E β size ∙ sym (into-rows z g cs E (blank w h) (blank-size w h)) in
     same-rows (into-board z g cs E β size) (into-board z g cs E (blank w h) (blank-size w h))
     (λ r l. rows-at w h (writtenInto w cs β) (boardOf w h cs) h 0 rows r (omega arith) (omega arith))
@@ -193,31 +195,31 @@ module _ (w h : ℕ) (other board : List ℕ) where
   equal-rows i f (suc r) l = f r (omega arith) (omega arith)
 
 -- ---- the optimal board
-module _ {w h : ℕ} (z : Sized w h) (g : List ℕ) (x : ℕ) (cs : List ℕ) (B : Endings.Optimal (kind w h g) h 0 0 x cs) where
+module _ {rule : Rule} {w h : ℕ} (z : Frame rule w h) (g : List ℕ) (x : ℕ) (cs : List ℕ) (B : Endings.Optimal (kind rule w h g) h 0 0 x cs) where
   is-board : Board w h (boardOf w h cs)
   is-board = into-board z g cs (B .lawful) (blank w h) (blank-size w h)
 
   pub is-rows : allRows w h (boardOf w h cs) ≡ cs
   is-rows = into-rows z g cs (B .lawful) (blank w h) (blank-size w h)
 
-  pub is-total : score w h g (boardOf w h cs) ≡ total (kind w h g) cs
-  is-total = total-score is-board g ∙ ap (total (kind w h g)) is-rows
+  pub is-total : score w h g (boardOf w h cs) ≡ total (kind rule w h g) cs
+  is-total = total-score (z .allowed) is-board g ∙ ap (total (kind rule w h g)) is-rows
 
   pub is-score : score w h g (boardOf w h cs) ≡ x
   is-score = is-total ∙ tied-equal false (B .worth)
 
-  module _ (other : List ℕ) (S : Solution w h g other) where
+  module _ (other : List ℕ) (S : Solution rule w h g other) where
     abbrev Beats : Type 0
-    Beats = NoBetterRows (kind w h g .comparison) (total (kind w h g) (allRows w h other)) (allRows w h other) x cs
+    Beats = NoBetterRows (kind rule w h g .comparison) (total (kind rule w h g) (allRows w h other)) (allRows w h other) x cs
 
     beats : Beats
-    beats = B .unbeaten (allRows w h other) (solution-ends (S .grid) g S)
+    beats = B .unbeaten (allRows w h other) (solution-ends (z .allowed) (S .grid) g S)
 
-    its-score : score w h g other ≡ total (kind w h g) (allRows w h other)
-    its-score = total-score (S .grid) g
+    its-score : score w h g other ≡ total (kind rule w h g) (allRows w h other)
+    its-score = total-score (z .allowed) (S .grid) g
 
     most : Beats → score w h g other ≤ score w h g (boardOf w h cs)
-    most (isWorse p) = omega (arith, ltb-true (total (kind w h g) (allRows w h other)) x p, its-score, is-score)
+    most (isWorse p) = omega (arith, ltb-true (total (kind rule w h g) (allRows w h other)) x p, its-score, is-score)
     most (isTied e f) = omega (arith, tied-equal false e, its-score, is-score)
 
     placed : Compared w h other (boardOf w h cs) 0 h → (other ≡ boardOf w h cs) ⊎ Precedes w h (boardOf w h cs) other
@@ -225,12 +227,12 @@ module _ {w h : ℕ} (z : Sized w h) (g : List ℕ) (x : ℕ) (cs : List ℕ) (B
     placed (later i l m f s) = inr (record { row = suc i; inside = omega arith; equal = equal-rows w h other (boardOf w h cs) i f; smaller = s })
 
     earliest : score w h g other ≡ score w h g (boardOf w h cs) → Beats → (other ≡ boardOf w h cs) ⊎ Precedes w h (boardOf w h cs) other
-    earliest q (isWorse p) = absurd (omega (arith, ltb-true (total (kind w h g) (allRows w h other)) x p, its-score, is-score))
+    earliest q (isWorse p) = absurd (omega (arith, ltb-true (total (kind rule w h g) (allRows w h other)) x p, its-score, is-score))
     earliest q (isTied e f) = placed (compare w h other (boardOf w h cs) h 0 (rw is-rows f))
 
-  pub optimal : Optimal w h g (boardOf w h cs)
+  pub optimal : Optimal rule w h g (boardOf w h cs)
   optimal = record {
-    solution = ends-solution is-board g (rw is-rows (B .lawful));
+    solution = ends-solution (z .allowed) is-board g (rw is-rows (B .lawful));
     most = λ other S. most other S (beats other S);
     earliest = λ other S q. earliest other S q (beats other S);
   }

@@ -14,6 +14,7 @@ use lib.Pow.{pow-pos}
 use lib.ListN.{length, getD}
 use Rattle.board.specs.Answers.{Answer}
 use Rattle.board.specs.Boards.{Sized}
+use Rattle.rule.specs.declared.Rule.{Rule}
 use Rattle.elimination.specs.Kind.{rightEntry, rightRows}
 use Rattle.elimination.specs.Endings as Endings
 use Rattle.elimination.specs.Machine.{Lasts, ComesTo}
@@ -32,7 +33,7 @@ use Rattle.solver.specs.Units.{State}
 use Rattle.solver.specs.Demand.{Call, run, summed, Each, Fair, Written, chosenIn, chosenRows, idleUnits, Progress, Served}
 use Rattle.solver.specs.declared.Stage.{Stage}
 use Rattle.score_table.proofs.Powers.{four-two}
-use Rattle.solver.proofs.Fits.{Fits, pausable}
+use Rattle.solver.proofs.Fits.{Frame, Fits, pausable}
 use Rattle.solver.proofs.Endings.{kind}
 use Rattle.solver.proofs.Optimum.{boardOf, into-same, is-total}
 use Rattle.score_table.proofs.Places.{table-four}
@@ -94,116 +95,117 @@ table-pos {w} {h} z =
     omega (arith, table-four w h)
 
 -- ---- memory that the checks take
-module _ {w h : ℕ} (z : Sized w h) (g t β : List ℕ) (size : length β ≡ w * h) (room : entries w h ≤ length t) where
+module _ {rule : Rule} {w h : ℕ} (z : Frame rule w h) (g t β : List ℕ) (size : length β ≡ w * h) (room : entries w h ≤ length t) where
   -- the opened job with its memory
   abbrev s₀ : State
-  s₀ = at w h 0 Stage.Filling t β
+  s₀ = at rule w h 0 Stage.Filling t β
 
   -- what a list of calls comes to, where the machine lasts `long` units, then says `final`, and its board is `wanted`
-  module _ (long : ℕ) (final : Answer) (wanted : List ℕ) (lasts : Lasts (machine w h g) (first w h g t β) long)
-      (end : (s : State) → view s ≡ after w h g t β long → stageSays (s .job .stage) ≡ final)
-      (boards : (m : ℕ) → m ≤ long → (s : State) → Here w h g s → view s ≡ after w h g t β m → Written w (chosenRows w h (s .job)) wanted β (s .board))
-      (last : after w h g t β long .board ≡ wanted) where
+  module _ (long : ℕ) (final : Answer) (wanted : List ℕ) (lasts : Lasts (machine rule w h g) (first rule w h g t β) long)
+      (end : (s : State) → view s ≡ after rule w h g t β long → stageSays (s .job .stage) ≡ final)
+      (boards : (m : ℕ) → m ≤ long → (s : State) → Here rule w h g s → view s ≡ after rule w h g t β m → Written w (chosenRows w h (s .job)) wanted β (s .board))
+      (last : after rule w h g t β long .board ≡ wanted) where
     abbrev Comes : ℕ → State → Type 0
-    Comes m s = Reached z g (first w h g t β) long final lasts end m s
+    Comes m s = Reached z g (first rule w h g t β) long final lasts end m s
 
     begins : Comes 0 s₀
-    begins = record { here = record { wide = refl; tall = refl; stage = table-pos z }; is = sym (advance-zero (machine w h g) (first w h g t β)) }
+    begins = record { here = record { ruled = refl; wide = refl; tall = refl; stage = table-pos (z .size) }; is = sym (advance-zero (machine rule w h g) (first rule w h g t β)) }
 
-    settled : (m : ℕ) → after w h g t β m ≡ after w h g t β (min m long)
+    settled : (m : ℕ) → after rule w h g t β m ≡ after rule w h g t β (min m long)
     settled m =
-        ⊎-elim (λ (l : m < long). let e : m ≡ min m long = omega arith in ap (after w h g t β) e)
-        (λ (l : long ≤ m). let e : long ≡ min m long = omega arith in after-units (machine w h g) lasts m .stays l ∙ ap (after w h g t β) e) (lt-or-ge m long)
+        ⊎-elim (λ (l : m < long). let e : m ≡ min m long = omega arith in ap (after rule w h g t β) e)
+        (λ (l : long ≤ m). let e : long ≡ min m long = omega arith in after-units (machine rule w h g) lasts m .stays l ∙ ap (after rule w h g t β) e) (lt-or-ge m long)
 
-    progress : (m : ℕ) (s : State) → Comes m s → Progress w h g wanted s₀ s
+    progress : (m : ℕ) (s : State) → Comes m s → Progress rule w h g wanted s₀ s
     progress m s R =
         let i = R .is ∙ settled m in record {
+          ruled = R .here .ruled;
           width = R .here .wide;
           height = R .here .tall;
           units = units-split w h (s .job .units) (s .job .stage) (R .here .stage);
-          filled = rw (reached-units z g (first w h g t β) long final lasts end R, table-four w h, ap tableIn i) (table-filled w h g t β room (min m long));
+          filled = rw (reached-units z g (first rule w h g t β) long final lasts end R, table-four w h, ap tableIn i) (table-filled rule w h g t β room (min m long));
           written = boards (min m long) (omega arith) s (R .here) i;
         }
 
-    served : (cs : List Call) → Each (Fair g) cs s₀ → Served w h g long final wanted cs s₀
+    served : (cs : List Call) → Each (Fair g) cs s₀ → Served rule w h g long final wanted cs s₀
     served cs f =
-        let L = listed z g (first w h g t β) long final lasts end cs 0 s₀ begins f in
+        let L = listed z g (first rule w h g t β) long final lasts end cs 0 s₀ begins f in
         let e : 0 + summed cs s₀ ≡ summed cs s₀ = omega arith in
         let R = rw e at (L .reached) in
-        let u = reached-units z g (first w h g t β) long final lasts end R in record {
+        let u = reached-units z g (first rule w h g t β) long final lasts end R in record {
           units = omega (arith, u);
           answers = L .answers;
-          pausable = pausable (run cs s₀ .job) (reached-fits z g (first w h g t β) long final lasts end R);
+          pausable = pausable (run cs s₀ .job) (reached-fits z g (first rule w h g t β) long final lasts end R);
           progress = progress (summed cs s₀) (run cs s₀) R;
-          board = λ l. ap boardIn (R .is ∙ after-units (machine w h g) lasts (summed cs s₀) .stays l) ∙ last;
+          board = λ l. ap boardIn (R .is ∙ after-units (machine rule w h g) lasts (summed cs s₀) .stays l) ∙ last;
         }
 
   -- there is a board
   abbrev rows : List ℕ
-  rows = rightRows (kind w h g) h 0 0
+  rows = rightRows (kind rule w h g) h 0 0
 
   abbrev best : List ℕ
   best = boardOf w h rows
 
-  module _ (T : Endings.Optimal (kind w h g) h 0 0 (rightEntry (kind w h g) h 0 0) rows)
-      (comes : ComesTo (machine w h g) (first w h g t β) (boardEnd (setup w h g) (course w h) t β) (course w h .start h)) where
+  module _ (T : Endings.Optimal (kind rule w h g) h 0 0 (rightEntry (kind rule w h g) h 0 0) rows)
+      (comes : ComesTo (machine rule w h g) (first rule w h g t β) (boardEnd (setup rule w h g) (course w h) t β) (course w h .start h)) where
     long-is : course w h .start h ≡ boardLength w h
-    long-is = schedule-lengths h (2 ^ w * 2 ^ w) (z .some-row) .board ∙ ap (λ (q : ℕ). h * (q + 1)) (sym (four-two w))
+    long-is = schedule-lengths h (2 ^ w * 2 ^ w) (z .size .some-row) .board ∙ ap (λ (q : ℕ). h * (q + 1)) (sym (four-two w))
 
-    ends-at : after w h g t β (boardLength w h) ≡ boardEnd (setup w h g) (course w h) t β
+    ends-at : after rule w h g t β (boardLength w h) ≡ boardEnd (setup rule w h g) (course w h) t β
     ends-at = rw (← long-is) (comes .end)
 
-    board-lasts : Lasts (machine w h g) (first w h g t β) (boardLength w h)
+    board-lasts : Lasts (machine rule w h g) (first rule w h g t β) (boardLength w h)
     board-lasts = rw (← long-is) (comes .lasts)
 
-    ends-board : after w h g t β (boardLength w h) .board ≡ best
+    ends-board : after rule w h g t β (boardLength w h) .board ≡ best
     ends-board = ap boardIn ends-at ∙ into-same z g rows (T .lawful) β size
 
-    board-says : (s : State) → view s ≡ after w h g t β (boardLength w h) → stageSays (s .job .stage) ≡ Jobs.finished (score w h g best)
+    board-says : (s : State) → view s ≡ after rule w h g t β (boardLength w h) → stageSays (s .job .stage) ≡ Jobs.finished (score w h g best)
     board-says s e =
         finished-says (s .job .stage) (ap markOf (e ∙ ends-at))
-        ∙ ap Jobs.finished (ap soFarOf (e ∙ ends-at) ∙ sym (is-total z g (rightEntry (kind w h g) h 0 0) rows T))
+        ∙ ap Jobs.finished (ap soFarOf (e ∙ ends-at) ∙ sym (is-total z g (rightEntry (kind rule w h g) h 0 0) rows T))
 
-    never-none : (m : ℕ) → m ≤ boardLength w h → (s : State) → view s ≡ after w h g t β m → markIn (s .job .stage) ≡ infeasible → ⊥
+    never-none : (m : ℕ) → m ≤ boardLength w h → (s : State) → view s ≡ after rule w h g t β m → markIn (s .job .stage) ≡ infeasible → ⊥
     never-none m l s e n =
-        let b : leb (boardLength w h) m ≡ true = sym (after-units (machine w h g) board-lasts m .ended) ∙ ap ended (sym e) ∙ ap endMark n in
+        let b : leb (boardLength w h) m ≡ true = sym (after-units (machine rule w h g) board-lasts m .ended) ∙ ap ended (sym e) ∙ ap endMark n in
         let q : m ≡ boardLength w h = omega (arith, leb-true (boardLength w h) m b) in
-        let f : infeasible ≡ finished = sym n ∙ ap markOf (e ∙ ap (after w h g t β) q ∙ ends-at) in
+        let f : infeasible ≡ finished = sym n ∙ ap markOf (e ∙ ap (after rule w h g t β) q ∙ ends-at) in
         let o : _≡_ {A = ℕ} 0 1 = cc in omega arith
 
-    board-written : (m : ℕ) → m ≤ boardLength w h → (s : State) → Here w h g s → view s ≡ after w h g t β m → Written w (chosenRows w h (s .job)) best β (s .board)
+    board-written : (m : ℕ) → m ≤ boardLength w h → (s : State) → Here rule w h g s → view s ≡ after rule w h g t β m → Written w (chosenRows w h (s .job)) best β (s .board)
     board-written m l s H e =
         let u : s .job .units ≡ m = ap done e ∙ board-lasts .counted m l in
-        let b : s .board ≡ after w h g t β m .board = ap boardIn e in
+        let b : s .board ≡ after rule w h g t β m .board = ap boardIn e in
         let k : chosenRows w h (s .job) ≡ m - entries w h =
         chosen-beyond w h (s .job .units) (s .job .stage) (H .stage) (never-none m l s e) ∙ ap₂ (λ (x y : ℕ). x - y) u (table-four w h) in
         rw (k, b) (record {
-          size = board-size w h g t β (boardLength w h) board-lasts m l;
-          rows = λ p q. board-rows w h g t β (boardLength w h) board-lasts m l p q ∙ ap (λ (x : List ℕ). getD x p 0) ends-board;
-          rest = board-rest w h g t β (boardLength w h) board-lasts m l;
+          size = board-size rule w h g t β (boardLength w h) board-lasts m l;
+          rows = λ p q. board-rows rule w h g t β (boardLength w h) board-lasts m l p q ∙ ap (λ (x : List ℕ). getD x p 0) ends-board;
+          rest = board-rest rule w h g t β (boardLength w h) board-lasts m l;
         })
 
-    pub board-served : (cs : List Call) → Each (Fair g) cs s₀ → Served w h g (boardLength w h) (Jobs.finished (score w h g best)) best cs s₀
+    pub board-served : (cs : List Call) → Each (Fair g) cs s₀ → Served rule w h g (boardLength w h) (Jobs.finished (score w h g best)) best cs s₀
     board-served = served (boardLength w h) (Jobs.finished (score w h g best)) best board-lasts board-says board-written ends-board
 
   -- there is none
-  module _ (comes : ComesTo (machine w h g) (first w h g t β) (noneEnd (setup w h g) (course w h) t β) (suc (course w h .work 0))) where
+  module _ (comes : ComesTo (machine rule w h g) (first rule w h g t β) (noneEnd (setup rule w h g) (course w h) t β) (suc (course w h .work 0))) where
     none-long : suc (course w h .work 0) ≡ noneLength w h
-    none-long = schedule-lengths h (2 ^ w * 2 ^ w) (z .some-row) .none ∙ ap (λ (q : ℕ). h * q + 1) (sym (four-two w))
+    none-long = schedule-lengths h (2 ^ w * 2 ^ w) (z .size .some-row) .none ∙ ap (λ (q : ℕ). h * q + 1) (sym (four-two w))
 
-    none-at : after w h g t β (noneLength w h) ≡ noneEnd (setup w h g) (course w h) t β
+    none-at : after rule w h g t β (noneLength w h) ≡ noneEnd (setup rule w h g) (course w h) t β
     none-at = rw (← none-long) (comes .end)
 
-    none-lasts : Lasts (machine w h g) (first w h g t β) (noneLength w h)
+    none-lasts : Lasts (machine rule w h g) (first rule w h g t β) (noneLength w h)
     none-lasts = rw (← none-long) (comes .lasts)
 
-    none-board : (m : ℕ) → m ≤ noneLength w h → after w h g t β m .board ≡ β
+    none-board : (m : ℕ) → m ≤ noneLength w h → after rule w h g t β m .board ≡ β
     none-board m l =
         let e : h * 4 ^ w ≡ entries w h = ap (λ (q : ℕ). h * q) (four-two w) in
-        ⊎-elim (λ (q : m < noneLength w h). ap boardIn (filling w h g t β m (omega arith)))
-        (λ (q : noneLength w h ≤ m). let f : m ≡ noneLength w h = omega arith in ap boardIn (ap (after w h g t β) f ∙ none-at)) (lt-or-ge m (noneLength w h))
+        ⊎-elim (λ (q : m < noneLength w h). ap boardIn (filling rule w h g t β m (omega arith)))
+        (λ (q : noneLength w h ≤ m). let f : m ≡ noneLength w h = omega arith in ap boardIn (ap (after rule w h g t β) f ∙ none-at)) (lt-or-ge m (noneLength w h))
 
-    pub none-served : (cs : List Call) → Each (Fair g) cs s₀ → Served w h g (noneLength w h) Jobs.infeasible β cs s₀
+    pub none-served : (cs : List Call) → Each (Fair g) cs s₀ → Served rule w h g (noneLength w h) Jobs.infeasible β cs s₀
     none-served =
         served (noneLength w h) Jobs.infeasible β none-lasts (λ s e. infeasible-says (s .job .stage) (ap markOf (e ∙ none-at)))
         (λ m l s H e. unwritten w (chosenRows w h (s .job)) β (s .board) (ap boardIn e ∙ none-board m l)) (none-board (noneLength w h) (omega arith))

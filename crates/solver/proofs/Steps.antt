@@ -9,7 +9,7 @@ use borrow.Author.Tests.{lt-ltb, le-ltb, eq-eqb, ne-eqb}
 use lib.ListN.{set}
 use Rattle.board.specs.Answers.{Answer, refuses}
 use Rattle.elimination.specs.Candidates.{nothing, chosen}
-use Rattle.rule.specs.Rule.{conway}
+use Rattle.rule.specs.Rule.{nextUnder}
 use Rattle.score_table.specs.Rows.{rowWorth}
 use Rattle.solver.specs.Rows.{written}
 use Rattle.score_table.specs.ScoreTable.{tableSize, unitPlace, unitEntry, rowChoice}
@@ -20,7 +20,7 @@ use Rattle.solver.specs.Inner.{hasEnded, lentState, stepOf, Lent, Moves,
 use Rattle.solver.specs.declared.Stage.{Stage}
 use Rattle.solver.specs.declared.Job.{Job}
 use Rattle.solver.specs.declared.choosing.Stepped.{Stepped}
-use Rattle.solver.proofs.UnitLaws.{unit-lent}
+use Rattle.solver.proofs.UnitLaws.{unit-fits, unit-lent}
 use Rattle.solver.proofs.WorkLaws.{ended-stays, works-none, works-next, works-spoiled, works-ended}
 
 next-not-spoiled : {j : Job} {A : Type 0} → Stepped.Next j ≡ Stepped.Spoiled → A
@@ -41,24 +41,24 @@ choosing-over r h last c x n m l e s p = rw (le-ltb (r + 1) h l, ← e) p
 
 -- ---- a row
 module _ (j : Job) (above last soFar : ℕ) (g t β : List ℕ) (r : ℕ) (e : r ≡ j .units - tableSize (j .width) (j .height)) where
-  pub chosen-row : (c n : ℕ) (s : Stage) → rowChoice conway (j .width) (j .height) g t r above last ≡ chosen c n
+  pub chosen-row : (c n : ℕ) (s : Stage) → rowChoice (nextUnder (j .rule)) (j .width) (j .height) g t r above last ≡ chosen c n
       → s ≡ chosenTo (j .height) (r + 1) last c (soFar + rowWorth (j .width) g (r * j .width) c)
-      → Chosen j above last soFar g t β (Stepped.Next (record { width = j .width; height = j .height; units = j .units + 1; stage = s }))
+      → Chosen j above last soFar g t β (Stepped.Next (record { rule = j .rule; width = j .width; height = j .height; units = j .units + 1; stage = s }))
       (written (j .width) c β (r * j .width) (j .width))
   chosen-row c n s f q = record { step = rw (← e, f, q); same = next-not-spoiled }
 
-  pub chosen-none : r ≡ 0 → rowChoice conway (j .width) (j .height) g t r above last ≡ nothing
-      → Chosen j above last soFar g t β (Stepped.Next (record { width = j .width; height = j .height; units = j .units + 1; stage = Stage.Infeasible })) β
+  pub chosen-none : r ≡ 0 → rowChoice (nextUnder (j .rule)) (j .width) (j .height) g t r above last ≡ nothing
+      → Chosen j above last soFar g t β (Stepped.Next (record { rule = j .rule; width = j .width; height = j .height; units = j .units + 1; stage = Stage.Infeasible })) β
   chosen-none z f = record { step = rw (← e, f, eq-eqb r 0 z); same = next-not-spoiled }
 
-  pub chosen-spoiled : (r ≡ 0 → ⊥) → rowChoice conway (j .width) (j .height) g t r above last ≡ nothing → Chosen j above last soFar g t β Stepped.Spoiled β
+  pub chosen-spoiled : (r ≡ 0 → ⊥) → rowChoice (nextUnder (j .rule)) (j .width) (j .height) g t r above last ≡ nothing → Chosen j above last soFar g t β Stepped.Spoiled β
   chosen-spoiled n f = record { step = rw (← e, f, ne-eqb r 0 n); same = λ x. refl }
 
 -- ---- a unit, by stage
 module _ (j : Job) (g t β : List ℕ) where
   pub moves-fill : j .stage ≡ Stage.Filling → (s : Stage) → s ≡ filledTo (j .width) (j .height) (j .units + 1)
-      → (t′ : List ℕ) → t′ ≡ set t (unitPlace (j .width) (j .height) (j .units)) (unitEntry conway (j .width) (j .height) g t (j .units))
-      → Moves j g t β (Stepped.Next (record { width = j .width; height = j .height; units = j .units + 1; stage = s })) t′ β
+      → (t′ : List ℕ) → t′ ≡ set t (unitPlace (j .width) (j .height) (j .units)) (unitEntry (nextUnder (j .rule)) (j .width) (j .height) g t (j .units))
+      → Moves j g t β (Stepped.Next (record { rule = j .rule; width = j .width; height = j .height; units = j .units + 1; stage = s })) t′ β
   unfolding unitOf
   moves-fill e s p t′ q = record { step = rw (e, p, q); same = next-not-spoiled }
 
@@ -93,6 +93,10 @@ module _ (g : List ℕ) where
     -- after a unit the checks would still pass
     pub lent-moved : (j′ : Job) → r ≡ Stepped.Next j′ → Lent j g t β → Lent j′ g t′ β′
     lent-moved j′ e L = unit-lent g (lentState j t β) (lentState j′ t′ β′) L (moved j′ e)
+
+    -- and the job keeps its rule
+    pub rule-moved : (j′ : Job) → r ≡ Stepped.Next j′ → Lent j g t β → j′ .rule ≡ j .rule
+    rule-moved j′ e L = unit-fits g (lentState j t β) (lentState j′ t′ β′) (L .taken) (moved j′ e) .rule
 
   -- the end of a call
   pub works-spent : (j : Job) (t β : List ℕ) (x : Answer) → x ≡ stageSays (j .stage) → (n : ℕ) → n ≡ 0 → record { answer = x; state = lentState j t β } ≡ worksOn g n (lentState j t β)

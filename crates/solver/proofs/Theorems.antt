@@ -10,6 +10,7 @@ use lib.Dec.{eqb}
 use lib.ListN.{length, getD}
 use Rattle.board.specs.Boards.{Sized}
 use Rattle.board.proofs.Sums.{total-sum}
+use Rattle.rule.specs.declared.Rule.{Rule}
 use Rattle.elimination.specs.Order.{isWorse, isTied}
 use Rattle.elimination.specs.Candidates.{NoBetterRows}
 use Rattle.elimination.specs.Kind.{entry, rightEntry, rightRows, worthOf}
@@ -23,59 +24,61 @@ use Rattle.score_table.specs.ScoreTable.{readsOf}
 use Rattle.solver.specs.Theorems as Theorems
 use Rattle.solver.specs.Theorems.{allRows, EndingsAreSolutions, BestOrNone, best, none, ChoiceIsOptimal, rowsWorth, Greatest, greatest, RightLayer, EntriesRight, givenLive, GivensApart, SameBest}
 use Rattle.score_table.proofs.Marks.{MarkIs, isDead, isLive, isFree, mark-is, worth-dead, worth-live, worth-free}
+use Rattle.solver.proofs.Fits.{Frame}
 use Rattle.solver.proofs.Endings.{kind, kind-laws, solution-ends, ends-solution}
 use Rattle.solver.proofs.Optimum.{boardOf, is-rows, is-score, optimal}
 
 pub endings-are-solutions : EndingsAreSolutions
-endings-are-solutions w h g board b = (ends-solution b g, solution-ends b g)
+endings-are-solutions rule allowed w h g board b = (ends-solution allowed b g, solution-ends allowed b g)
 
 pub choice-is-optimal : ChoiceIsOptimal
-choice-is-optimal w h g z = go (elimination-solves (kind w h g) h (kind-laws w h g z) h 0 0 (omega arith))
+choice-is-optimal rule allowed w h g z = go (elimination-solves (kind rule w h g) h (kind-laws rule w h g z) h 0 0 (omega arith))
   where
-    go : Solved (kind w h g) h 0 0 (rightEntry (kind w h g) h 0 0) (rightRows (kind w h g) h 0 0) → BestOrNone w h g
-    go (noEnding n p q) = none (λ b S. n (allRows w h b) (solution-ends (S .grid) g S)) p
+    go : Solved (kind rule w h g) h 0 0 (rightEntry (kind rule w h g) h 0 0) (rightRows (kind rule w h g) h 0 0) → BestOrNone rule w h g
+    go (noEnding n p q) = none (λ b S. n (allRows w h b) (solution-ends allowed (S .grid) g S)) p
     go (anEnding T) =
-        let x = rightEntry (kind w h g) h 0 0 in
-        let cs = rightRows (kind w h g) h 0 0 in
-        best (boardOf w h cs) (optimal z g x cs T) (is-rows z g x cs T) (is-score z g x cs T)
+        let F : Frame rule w h = record { size = z; allowed = allowed } in
+        let x = rightEntry (kind rule w h g) h 0 0 in
+        let cs = rightRows (kind rule w h g) h 0 0 in
+        best (boardOf w h cs) (optimal F g x cs T) (is-rows F g x cs T) (is-score F g x cs T)
 
 -- ---- entries
-worth-total : (w h : ℕ) (g cs : List ℕ) → rowsWorth w h g cs ≡ total (kind w h g) cs
+worth-total : (rule : Rule) (w h : ℕ) (g cs : List ℕ) → rowsWorth w h g cs ≡ total (kind rule w h g) cs
 unfolding rowsWorth
-worth-total w h g [] = sym (total-none (kind w h g))
-worth-total w h g (c ∷ cs) = ap (λ (x : ℕ). rowWorth w g ((h - suc (length cs)) * w) c + x) (worth-total w h g cs) ∙ sym (total-more (kind w h g) c cs)
+worth-total rule w h g [] = sym (total-none (kind rule w h g))
+worth-total rule w h g (c ∷ cs) = ap (λ (x : ℕ). rowWorth w g ((h - suc (length cs)) * w) c + x) (worth-total rule w h g cs) ∙ sym (total-more (kind rule w h g) c cs)
 
-module _ {w h : ℕ} (z : Sized w h) (g : List ℕ) where
+module _ (rule : Rule) {w h : ℕ} (z : Sized w h) (g : List ℕ) where
   -- an entry is the greatest worth
-  right-greatest : (k a b : ℕ) → k ≤ h → Greatest w h g k a b (rightEntry (kind w h g) k a b)
-  right-greatest k a b l = go (elimination-solves (kind w h g) h (kind-laws w h g z) k a b l)
+  right-greatest : (k a b : ℕ) → k ≤ h → Greatest rule w h g k a b (rightEntry (kind rule w h g) k a b)
+  right-greatest k a b l = go (elimination-solves (kind rule w h g) h (kind-laws rule w h g z) k a b l)
     where
-      go : Solved (kind w h g) k a b (rightEntry (kind w h g) k a b) (rightRows (kind w h g) k a b) → Greatest w h g k a b (rightEntry (kind w h g) k a b)
+      go : Solved (kind rule w h g) k a b (rightEntry (kind rule w h g) k a b) (rightRows (kind rule w h g) k a b) → Greatest rule w h g k a b (rightEntry (kind rule w h g) k a b)
       go (noEnding n p q) = Theorems.noEnding n p
       go (anEnding T) =
-          let cs = rightRows (kind w h g) k a b in
-          greatest cs (T .lawful) (worth-total w h g cs ∙ tied-equal false (T .worth))
-          (leb-true (rightEntry (kind w h g) k a b) 600 (ending-counts (kind w h g) (kind-laws w h g z) k a b l cs (T .lawful))) (λ ds D. most ds (T .unbeaten ds D))
+          let cs = rightRows (kind rule w h g) k a b in
+          greatest cs (T .lawful) (worth-total rule w h g cs ∙ tied-equal false (T .worth))
+          (leb-true (rightEntry (kind rule w h g) k a b) 600 (ending-counts (kind rule w h g) (kind-laws rule w h g z) k a b l cs (T .lawful))) (λ ds D. most ds (T .unbeaten ds D))
         where
-          most : (ds : List ℕ) → NoBetterRows (kind w h g .comparison) (total (kind w h g) ds) ds (rightEntry (kind w h g) k a b) (rightRows (kind w h g) k a b)
-              → rowsWorth w h g ds ≤ rightEntry (kind w h g) k a b
-          most ds (isWorse p) = omega (arith, worth-total w h g ds, ltb-true (total (kind w h g) ds) (rightEntry (kind w h g) k a b) p)
-          most ds (isTied e f) = omega (arith, worth-total w h g ds, tied-equal false e)
+          most : (ds : List ℕ) → NoBetterRows (kind rule w h g .comparison) (total (kind rule w h g) ds) ds (rightEntry (kind rule w h g) k a b) (rightRows (kind rule w h g) k a b)
+              → rowsWorth w h g ds ≤ rightEntry (kind rule w h g) k a b
+          most ds (isWorse p) = omega (arith, worth-total rule w h g ds, ltb-true (total (kind rule w h g) ds) (rightEntry (kind rule w h g) k a b) p)
+          most ds (isTied e f) = omega (arith, worth-total rule w h g ds, tied-equal false e)
 
   -- over right entries the rule gives a right entry
-  rule-right : (i a b : ℕ) → b < 2 ^ w → (t : List ℕ) → (i < h → RightLayer w h g t (i + 1)) → (k : ℕ) → h - i ≡ k
-      → entry (kind w h g) k a b (readsOf w t (i + 1) b) ≡ rightEntry (kind w h g) k a b
-  rule-right i a b l t right zero e = sym (right-entry-last (kind w h g) a b (readsOf w t (i + 1) b))
+  rule-right : (i a b : ℕ) → b < 2 ^ w → (t : List ℕ) → (i < h → RightLayer rule w h g t (i + 1)) → (k : ℕ) → h - i ≡ k
+      → entry (kind rule w h g) k a b (readsOf w t (i + 1) b) ≡ rightEntry (kind rule w h g) k a b
+  rule-right i a b l t right zero e = sym (right-entry-last (kind rule w h g) a b (readsOf w t (i + 1) b))
   rule-right i a b l t right (suc k) e =
       let d : h - (i + 1) ≡ k = omega arith in
-      entry-more (kind w h g) k a b (readsOf w t (i + 1) b)
-      ∙ ap (worthOf 65535) (choose-ext (kind w h g) k a b (readsOf w t (i + 1) b) (rightEntry (kind w h g) k b) (λ c m. rw d at (right (omega arith) b c l m)))
-      ∙ sym (right-entry-more (kind w h g) k a b ∙ entry-more (kind w h g) k a b (rightEntry (kind w h g) k b))
+      entry-more (kind rule w h g) k a b (readsOf w t (i + 1) b)
+      ∙ ap (worthOf 65535) (choose-ext (kind rule w h g) k a b (readsOf w t (i + 1) b) (rightEntry (kind rule w h g) k b) (λ c m. rw d at (right (omega arith) b c l m)))
+      ∙ sym (right-entry-more (kind rule w h g) k a b ∙ entry-more (kind rule w h g) k a b (rightEntry (kind rule w h g) k b))
 
 pub entries-right : EntriesRight
-entries-right w h g z i a b l q = record {
-  rule = λ t right. rule-right z g i a b q t right (h - i) refl;
-  means = right-greatest z g (h - i) a b (omega arith);
+entries-right rule w h g z i a b l q = record {
+  from-below = λ t right. rule-right rule z g i a b q t right (h - i) refl;
+  means = right-greatest rule z g (h - i) a b (omega arith);
 }
 
 -- ---- the score and all live cells
@@ -95,11 +98,11 @@ givens-apart w h g board K =
     (λ p l. cell-apart (getD g p 0) (getD board p 0) (K .dead p l) (K .live p l))
 
 -- counts that order the solutions alike have the same best board
-module _ {w h : ℕ} {g board : List ℕ} where
+module _ {rule : Rule} {w h : ℕ} {g board : List ℕ} where
   best-same : {count count′ : List ℕ → ℕ}
-      → ((a b : List ℕ) → Solution w h g a → Solution w h g b → count a ≤ count b → count′ a ≤ count′ b)
-      → ((a b : List ℕ) → Solution w h g a → Solution w h g b → count′ a ≡ count′ b → count a ≡ count b)
-      → BestBy count w h g board → BestBy count′ w h g board
+      → ((a b : List ℕ) → Solution rule w h g a → Solution rule w h g b → count a ≤ count b → count′ a ≤ count′ b)
+      → ((a b : List ℕ) → Solution rule w h g a → Solution rule w h g b → count′ a ≡ count′ b → count a ≡ count b)
+      → BestBy count rule w h g board → BestBy count′ rule w h g board
   best-same le eq B = record {
     solution = B .solution;
     most = λ a S. le a board S (B .solution) (B .most a S);
@@ -107,10 +110,10 @@ module _ {w h : ℕ} {g board : List ℕ} where
   }
 
 pub same-best : SameBest
-same-best w h g board = (
+same-best rule w h g board = (
   best-same (λ a b S T l. omega (arith, apart a S, apart b T)) (λ a b S T e. omega (arith, apart a S, apart b T)),
   best-same (λ a b S T l. omega (arith, apart a S, apart b T)) (λ a b S T e. omega (arith, apart a S, apart b T)),
 )
   where
-    apart : (a : List ℕ) → Solution w h g a → population w h a ≡ score w h g a + givenLive w h g
+    apart : (a : List ℕ) → Solution rule w h g a → population w h a ≡ score w h g a + givenLive w h g
     apart a S = givens-apart w h g a (S .keeps)

@@ -10,7 +10,8 @@ use native.Mathlib.Omega.{arith}
 use lib.Dec.{eqb}
 use lib.ListN.{length, length-set}
 use Rattle.elimination.specs.Candidates.{Choice, nothing, chosen}
-use Rattle.rule.specs.Rule.{conway}
+use Rattle.rule.specs.Rule.{nextUnder}
+use Rattle.rule.specs.declared.Rule.{Rule}
 use Rattle.score_table.specs.ScoreTable.{tableSize, unitPlace, unitEntry, rowChoice}
 use Rattle.solver.specs.Jobs.{jobFits}
 use Rattle.solver.specs.Units.{State, Step, next, spoiled, chooseStep, stageStep, unitOf}
@@ -23,19 +24,21 @@ use Rattle.solver.proofs.Writing.{written-length}
 use Rattle.solver.proofs.Machine.{Steps, unit-law, here-fits}
 
 -- ---- the job
--- a next job that fits, of the same grid
+-- a next job that fits, of the same rule and grid
 pub record Fit (j j′ : Job) : Type 0 where
   pub taken : jobFits j′ ≡ true
+  pub rule : j′ .rule ≡ j .rule
   pub width : j′ .width ≡ j .width
   pub height : j′ .height ≡ j .height
 
 pub unit-fits : (g : List ℕ) (s s′ : State) → jobFits (s .job) ≡ true → unitOf g s ≡ next s′ → Fit (s .job) (s′ .job)
 unit-fits g s s′ f e =
     let T = fits-at (s .job) f in
+    let rule = s .job .rule in
     let w = s .job .width in
     let h = s .job .height in
-    let H = subst (λ (o : Step). Steps w h g o s) e (unit-law (T .size) g s (record { wide = refl; tall = refl; stage = T .stage })) .0 in
-    record { taken = here-fits (T .size) g s′ H; width = H .wide; height = H .tall }
+    let H = subst (λ (o : Step). Steps rule w h g o s) e (unit-law (T .frame) g s (record { ruled = refl; wide = refl; tall = refl; stage = T .stage })) .0 in
+    record { taken = here-fits (T .frame) g s′ H; rule = H .ruled; width = H .wide; height = H .tall }
 
 -- ---- the memory
 record Lengths (t β t′ β′ : List ℕ) : Type 0 where
@@ -46,25 +49,25 @@ abbrev StepLengths : List ℕ → List ℕ → Step → Type 0
 StepLengths t β (next s′) = Lengths t β (s′ .table) (s′ .board)
 StepLengths t β spoiled = Unit {0}
 
-choose-lengths : (g : List ℕ) (w h u r last soFar : ℕ) (t β : List ℕ) (o : Choice ℕ) → StepLengths t β (chooseStep g w h u r last soFar t β o)
-choose-lengths g w h u r last soFar t β (chosen c n) = record { table = refl; board = written-length w c β (r * w) w }
-choose-lengths g w h u r last soFar t β nothing = go (eqb r 0)
+choose-lengths : (g : List ℕ) (rule : Rule) (w h u r last soFar : ℕ) (t β : List ℕ) (o : Choice ℕ) → StepLengths t β (chooseStep g rule w h u r last soFar t β o)
+choose-lengths g rule w h u r last soFar t β (chosen c n) = record { table = refl; board = written-length w c β (r * w) w }
+choose-lengths g rule w h u r last soFar t β nothing = go (eqb r 0)
   where
-    go : (b : Bool) → StepLengths t β (cond b (next record { job = jobAt w h (u + 1) Stage.Infeasible; table = t; board = β }) spoiled)
+    go : (b : Bool) → StepLengths t β (cond b (next record { job = jobAt rule w h (u + 1) Stage.Infeasible; table = t; board = β }) spoiled)
     go true = record { table = refl; board = refl }
     go false = tt
 
-stage-lengths : (g : List ℕ) (w h u : ℕ) (s : Stage) (t β : List ℕ) → StepLengths t β (stageStep g w h u s t β)
-stage-lengths g w h u Stage.Filling t β = record { table = length-set t (unitPlace w h u) (unitEntry conway w h g t u); board = refl }
-stage-lengths g w h u (Stage.Choosing above last soFar) t β =
-    choose-lengths g w h u (u - tableSize w h) last soFar t β (rowChoice conway w h g t (u - tableSize w h) above last)
-stage-lengths g w h u (Stage.Finished above last score) t β = record { table = refl; board = refl }
-stage-lengths g w h u Stage.Infeasible t β = record { table = refl; board = refl }
+stage-lengths : (g : List ℕ) (rule : Rule) (w h u : ℕ) (s : Stage) (t β : List ℕ) → StepLengths t β (stageStep g rule w h u s t β)
+stage-lengths g rule w h u Stage.Filling t β = record { table = length-set t (unitPlace w h u) (unitEntry (nextUnder rule) w h g t u); board = refl }
+stage-lengths g rule w h u (Stage.Choosing above last soFar) t β =
+    choose-lengths g rule w h u (u - tableSize w h) last soFar t β (rowChoice (nextUnder rule) w h g t (u - tableSize w h) above last)
+stage-lengths g rule w h u (Stage.Finished above last score) t β = record { table = refl; board = refl }
+stage-lengths g rule w h u Stage.Infeasible t β = record { table = refl; board = refl }
 
 unit-lengths : (g : List ℕ) (s s′ : State) → unitOf g s ≡ next s′ → Lengths (s .table) (s .board) (s′ .table) (s′ .board)
 unfolding unitOf
 unit-lengths g s s′ e =
-    subst (StepLengths (s .table) (s .board)) e (stage-lengths g (s .job .width) (s .job .height) (s .job .units) (s .job .stage) (s .table) (s .board))
+    subst (StepLengths (s .table) (s .board)) e (stage-lengths g (s .job .rule) (s .job .width) (s .job .height) (s .job .units) (s .job .stage) (s .table) (s .board))
 
 -- ---- what the checks have shown holds again
 pub unit-lent : (g : List ℕ) (s s′ : State) → Lent (s .job) g (s .table) (s .board) → unitOf g s ≡ next s′ → Lent (s′ .job) g (s′ .table) (s′ .board)
@@ -81,7 +84,7 @@ unit-lent g s s′ L e =
 pub lent-memory : {j : Job} {g t β : List ℕ} → Lent j g t β → Memory (j .width) (j .height) g t
 lent-memory {j} L =
     let T = fits-at j (L .taken) in
-    record { narrow = T .size .narrow; low = T .size .low; marks = L .marks; entries = L .entries }
+    record { narrow = T .frame .size .narrow; low = T .frame .size .low; marks = L .marks; entries = L .entries }
 
 pub lent-early : {j : Job} {g t β : List ℕ} → Lent j g t β → j .stage ≡ Stage.Filling → j .units < tableSize (j .width) (j .height)
 lent-early {j} L e = rw e at (fits-at j (L .taken) .stage)
@@ -90,13 +93,13 @@ pub lent-chooses : {j : Job} {g t β : List ℕ} {above last live : ℕ} → Len
 lent-chooses {j} {above = above} {last = last} {live = live} L e =
     let T = fits-at j (L .taken) in
     let F : Choosing (j .width) (j .height) (j .units) above last live = rw e at (T .stage) in
-    let k : j .units - tableSize (j .width) (j .height) ≤ 60 = omega (arith, F .until, F .from, T .size .low) in
+    let k : j .units - tableSize (j .width) (j .height) ≤ 60 = omega (arith, F .until, F .from, T .frame .size .low) in
     record {
       memory = lent-memory L;
       over = F .over;
       below = F .below;
       from = F .from;
       until = F .until;
-      few = omega (arith, F .rows .few, mul-le-mul (T .size .narrow) k);
+      few = omega (arith, F .rows .few, mul-le-mul (T .frame .size .narrow) k);
       cells = L .cells;
     }

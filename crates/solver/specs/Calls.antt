@@ -4,6 +4,7 @@ use mathlib.Core.Path.{_≡_}
 use mathlib.Core.List.{List, []}
 use Prim.Native.Nat.{ℕ, zero, suc}
 use Rattle.board.specs.Answers.{Answer, gives, refuses}
+use Rattle.rule.specs.declared.Rule.{Rule}
 use Rattle.solver.specs.Jobs.{jobOf, start, openRule, pauseRule, resumeRule, workCheck, stageSays, openedSays, pausedSays, resumedSays, statusSays}
 use Rattle.solver.specs.Units.{State, Step, next, spoiled, unitOf}
 use Rattle.solver.specs.declared.Job.{Job}
@@ -14,15 +15,15 @@ use Rattle.solver.specs.declared.Resumed.{Resumed}
 use Rattle.solver.specs.declared.Worked.{Worked}
 
 -- opening hands out the job at unit 0
-pub record Opens (w h : ℕ) (givens : List ℕ) (r : Opened) : Type 0 where
-  pub says : openedSays r ≡ openRule w h givens
-  pub job : (j : Job) → r ≡ Opened.Ready j → j ≡ start w h
+pub record Opens (rule : Rule) (w h : ℕ) (givens : List ℕ) (r : Opened) : Type 0 where
+  pub says : openedSays r ≡ openRule rule w h givens
+  pub job : (j : Job) → r ≡ Opened.Ready j → j ≡ start rule w h
 
--- pausing gives the seven numbers
+-- pausing gives the nine numbers
 pub record Pauses (j : Job) (r : Paused) : Type 0 where
   pub says : pausedSays r ≡ pauseRule j
 
--- resuming hands out the job of seven numbers
+-- resuming hands out the job of nine numbers
 pub record Resumes (t : Checkpoint) (r : Resumed) : Type 0 where
   pub says : resumedSays r ≡ resumeRule t
   pub job : (j : Job) → r ≡ Resumed.Ready j → j ≡ jobOf t

@@ -7,7 +7,8 @@ use Prim.Native.Nat.{ℕ, _+_, _-_, _*_, _≤_, _<_, min}
 use lib.ListN.{length, getD}
 use Rattle.board.specs.Answers.{Answer, gives, refuses, passed}
 use Rattle.elimination.specs.Kind.{rightEntry}
-use Rattle.rule.specs.Rule.{conway}
+use Rattle.rule.specs.Rule.{nextUnder}
+use Rattle.rule.specs.declared.Rule.{Rule}
 use Rattle.solver.specs.Grid.{Solution, Optimal, score}
 use Rattle.score_table.specs.ScoreTable.{kindOf, tableSize, rowsAfter, rowA, rowB, unitPlace}
 use Rattle.solver.specs.Jobs.{boardLength, noneLength, numbersOf, jobSays, checkpointSays, checkpointFits, jobFits, jobOf, pauseRule, resumeRule, workCheck, unfinished, finished, infeasible}
@@ -105,13 +106,13 @@ Answers long final (resume t) s = ResumeAnswers t s
 -- ---- what is done
 -- the right number for unit u of filling: entry (h - rowsAfter, rowA, rowB) by the rule over right entries. `EntriesRight` of `Theorems` says what
 -- a right entry means
-unfoldable pub rightUnit : ℕ → ℕ → List ℕ → ℕ → ℕ
-rightUnit w h givens u = rightEntry (kindOf conway w h givens) (rowsAfter w u) (rowA w u) (rowB w u)
+unfoldable pub rightUnit : Rule → ℕ → ℕ → List ℕ → ℕ → ℕ
+rightUnit rule w h givens u = rightEntry (kindOf (nextUnder rule) w h givens) (rowsAfter w u) (rowA w u) (rowB w u)
 
 -- the first n entries in filling order are right, and every other place of the table holds what it held
-pub record Filled (w h : ℕ) (givens : List ℕ) (n : ℕ) (before now : List ℕ) : Type 0 where
+pub record Filled (rule : Rule) (w h : ℕ) (givens : List ℕ) (n : ℕ) (before now : List ℕ) : Type 0 where
   pub size : length now ≡ length before
-  pub right : (u : ℕ) → u < n → getD now (unitPlace w h u) 0 ≡ rightUnit w h givens u
+  pub right : (u : ℕ) → u < n → getD now (unitPlace w h u) 0 ≡ rightUnit rule w h givens u
   pub rest : (p : ℕ) → ((u : ℕ) → u < n → p ≡ unitPlace w h u → ⊥) → getD now p 0 ≡ getD before p 0
 
 -- the first k rows are the wanted board's, and every other byte of the board is what it was
@@ -139,36 +140,37 @@ idleUnits (Stage.Choosing above last live) = 0
 idleUnits (Stage.Finished above last score) = 0
 idleUnits Stage.Infeasible = 1
 
--- the job is still of the opened grid, and the units done are the entries written and the rows chosen
-pub record Progress (w h : ℕ) (givens wanted : List ℕ) (before now : State) : Type 0 where
+-- the job is still of the opened rule and grid, and the units done are the entries written and the rows chosen
+pub record Progress (rule : Rule) (w h : ℕ) (givens wanted : List ℕ) (before now : State) : Type 0 where
+  pub ruled : now .job .rule ≡ rule
   pub width : now .job .width ≡ w
   pub height : now .job .height ≡ h
   pub units : now .job .units ≡ entriesWritten w h (now .job) + chosenRows w h (now .job) + idleUnits (now .job .stage)
-  pub filled : Filled w h givens (entriesWritten w h (now .job)) (before .table) (now .table)
+  pub filled : Filled rule w h givens (entriesWritten w h (now .job)) (before .table) (now .table)
   pub written : Written w (chosenRows w h (now .job)) wanted (before .board) (now .board)
 
 -- ---- the claim
 -- What a list of calls comes to, where the job's length is `long`, its last answer `final` and its last board `wanted`: the units done are the
 -- sum of the allowances, or the length where that is less; every call answers as it has to; the job can be paused; and this much is done.
-pub record Served (w h : ℕ) (givens : List ℕ) (long : ℕ) (final : Answer) (wanted : List ℕ) (calls : List Call) (s : State) : Type 0 where
+pub record Served (rule : Rule) (w h : ℕ) (givens : List ℕ) (long : ℕ) (final : Answer) (wanted : List ℕ) (calls : List Call) (s : State) : Type 0 where
   pub units : run calls s .job .units ≡ min long (summed calls s)
   pub answers : Each (Answers long final) calls s
   pub pausable : Pausable (run calls s .job)
-  pub progress : Progress w h givens wanted s (run calls s)
+  pub progress : Progress rule w h givens wanted s (run calls s)
   pub board : long ≤ summed calls s → run calls s .board ≡ wanted
 
 -- Either there is a best board, first in board order among the best, and the job comes to it and to its score, the live cells that were free
 -- (`SameBest` of `Theorems`: it is the best by all live cells too); or there is no still board that keeps the givens, the job says so, and the
 -- lent board stays unwritten.
-pub data Outcome (w h : ℕ) (givens : List ℕ) (calls : List Call) (s : State) : Type 0 where
-  solved : (best : List ℕ) → Optimal w h givens best → Served w h givens (boardLength w h) (finished (score w h givens best)) best calls s
-      → Outcome w h givens calls s
-  unsolvable : ((board : List ℕ) → Solution w h givens board → ⊥) → Served w h givens (noneLength w h) infeasible (s .board) calls s
-      → Outcome w h givens calls s
+pub data Outcome (rule : Rule) (w h : ℕ) (givens : List ℕ) (calls : List Call) (s : State) : Type 0 where
+  solved : (best : List ℕ) → Optimal rule w h givens best → Served rule w h givens (boardLength w h) (finished (score w h givens best)) best calls s
+      → Outcome rule w h givens calls s
+  unsolvable : ((board : List ℕ) → Solution rule w h givens board → ⊥) → Served rule w h givens (noneLength w h) infeasible (s .board) calls s
+      → Outcome rule w h givens calls s
 
--- every width, height and givens that opening takes, every table and board contents and lengths, every list of calls
+-- every rule, width, height and givens that opening takes, every table and board contents and lengths, every list of calls
 unfoldable pub ThirdDemand : Type 0
 ThirdDemand =
-    (w h : ℕ) (givens table board : List ℕ) (r : Opened) (j : Job) → Opens w h givens r → r ≡ Opened.Ready j
+    (rule : Rule) (w h : ℕ) (givens table board : List ℕ) (r : Opened) (j : Job) → Opens rule w h givens r → r ≡ Opened.Ready j
     → (calls : List Call) → Each (Fair givens) calls (record { job = j; table = table; board = board })
-    → Outcome w h givens calls (record { job = j; table = table; board = board })
+    → Outcome rule w h givens calls (record { job = j; table = table; board = board })

@@ -7,6 +7,7 @@ use Prim.Native.Nat.{ℕ, _*_, _≤_, _<_}
 use lib.ListN.{getD}
 use Rattle.board.specs.Sums.{total}
 use Rattle.board.specs.Boards.{Board}
+use Rattle.rule.specs.declared.Rule.{Rule}
 use Rattle.life.specs.Plane.{onPlane, Still}
 use Rattle.life.specs.Rows.{rowOf}
 use Rattle.score_table.specs.Rows.{cellWorth}
@@ -16,10 +17,10 @@ pub record KeepsGivens (w h : ℕ) (givens board : List ℕ) : Type 0 where
   pub dead : (p : ℕ) → p < w * h → getD givens p 0 ≡ 1 → getD board p 0 ≡ 0
   pub live : (p : ℕ) → p < w * h → getD givens p 0 ≡ 2 → getD board p 0 ≡ 1
 
--- a still board that keeps the givens
-pub record Solution (w h : ℕ) (givens board : List ℕ) : Type 0 where
+-- a board that is still under the rule and keeps the givens
+pub record Solution (rule : Rule) (w h : ℕ) (givens board : List ℕ) : Type 0 where
   pub grid : Board w h board
-  pub still : Still (onPlane w h board)
+  pub still : Still rule (onPlane w h board)
   pub keeps : KeepsGivens w h givens board
 
 -- the score: the number of live cells that were free
@@ -38,11 +39,11 @@ pub record Precedes (w h : ℕ) (board other : List ℕ) : Type 0 where
   pub smaller : rowOf w h board row < rowOf w h other row
 
 -- best by a count of cells: it is a solution, no solution counts more, and any other that counts as many comes later in board order
-pub record BestBy (count : List ℕ → ℕ) (w h : ℕ) (givens board : List ℕ) : Type 0 where
-  pub solution : Solution w h givens board
-  pub most : (other : List ℕ) → Solution w h givens other → count other ≤ count board
-  pub earliest : (other : List ℕ) → Solution w h givens other → count other ≡ count board → (other ≡ board) ⊎ Precedes w h board other
+pub record BestBy (count : List ℕ → ℕ) (rule : Rule) (w h : ℕ) (givens board : List ℕ) : Type 0 where
+  pub solution : Solution rule w h givens board
+  pub most : (other : List ℕ) → Solution rule w h givens other → count other ≤ count board
+  pub earliest : (other : List ℕ) → Solution rule w h givens other → count other ≡ count board → (other ≡ board) ⊎ Precedes w h board other
 
 -- the board that is wanted: best by its score
-abbrev pub Optimal : ℕ → ℕ → List ℕ → List ℕ → Type 0
-Optimal w h givens board = BestBy (score w h givens) w h givens board
+abbrev pub Optimal : Rule → ℕ → ℕ → List ℕ → List ℕ → Type 0
+Optimal rule w h givens board = BestBy (score w h givens) rule w h givens board

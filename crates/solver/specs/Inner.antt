@@ -49,5 +49,5 @@ pub record Moves (j : Job) (givens table board : List ℕ) (r : Stepped) (table�
   pub same : r ≡ Stepped.Spoiled → (table′ ≡ table) × (board′ ≡ board)
 
 pub record Chosen (j : Job) (above last live : ℕ) (givens table board : List ℕ) (r : Stepped) (board′ : List ℕ) : Type 0 where
-  pub step : stepOf r table board′ ≡ stageStep givens (j .width) (j .height) (j .units) (Stage.Choosing above last live) table board
+  pub step : stepOf r table board′ ≡ stageStep givens (j .rule) (j .width) (j .height) (j .units) (Stage.Choosing above last live) table board
   pub same : r ≡ Stepped.Spoiled → board′ ≡ board

@@ -1,5 +1,5 @@
--- Document 01, "A job and its units": a job, its seven numbers, which of them fit, and the checks of opening, pausing, resuming and working.
--- `Checkpoint` is the paper's seven numbers, and the stage `Infeasible` its none.
+-- Document 01, "A job and its units", and Req 02: a job, its nine numbers, which of them fit, and the checks of opening, pausing, resuming and
+-- working. `Checkpoint` is the paper's seven numbers and the two of the rule, and the stage `Infeasible` its none.
 -- Assumes nothing.
 use mathlib.Core.Bool.{Bool, true, false, cond, _&&_}
 use mathlib.Core.List.{List, [], _∷_}
@@ -8,7 +8,9 @@ use lib.Dec.{eqb, leb, ltb}
 use lib.ListN.{length}
 use Rattle.board.specs.Answers.{Answer, gives, refusalSays, _then_, refuseUnless}
 use Rattle.board.specs.Boards.{among}
-use Rattle.board.specs.Checks.{sizeCheck, givensCheck, lengthCheck}
+use Rattle.board.specs.Checks.{givensCheck, lengthCheck}
+use Rattle.rule.specs.Rule.{ruleFits, gridCheck}
+use Rattle.rule.specs.declared.Rule.{Rule}
 use Rattle.score_table.specs.ScoreTable.{tableSize}
 use Rattle.solver.specs.declared.Stage.{Stage}
 use Rattle.solver.specs.declared.Job.{Job}
@@ -26,7 +28,7 @@ boardLength w h = h * (4 ^ w + 1)
 abbrev pub noneLength : ℕ → ℕ → ℕ
 noneLength w h = h * 4 ^ w + 1
 
--- ---- the seven numbers of a job
+-- ---- the nine numbers of a job
 -- row above, last row, live cells so far and end mark of a stage
 abbrev pub aboveOf : Stage → ℕ
 aboveOf Stage.Filling = 0
@@ -61,11 +63,13 @@ numbersOf j = record {
   last = lastOf (j .stage);
   live = liveOf (j .stage);
   mark = markOf (j .stage);
+  births = j .rule .births;
+  survivals = j .rule .survivals;
 }
 
--- in the paper's terms the seven numbers are themselves, and a job is its seven numbers
+-- in the paper's terms the nine numbers are themselves, and a job is its nine numbers
 abbrev pub checkpointSays : Checkpoint → List ℕ
-checkpointSays t = t .width ∷ t .height ∷ t .units ∷ t .above ∷ t .last ∷ t .live ∷ t .mark ∷ []
+checkpointSays t = t .width ∷ t .height ∷ t .units ∷ t .above ∷ t .last ∷ t .live ∷ t .mark ∷ t .births ∷ t .survivals ∷ []
 
 abbrev pub jobSays : Job → List ℕ
 jobSays j = checkpointSays (numbersOf j)
@@ -86,11 +90,16 @@ rowsChosen w h units mark = cond (eqb mark 2) 0 (units - tableSize w h)
 unfoldable pub rowsFit : ℕ → ℕ → ℕ → ℕ → ℕ → Bool
 rowsFit w k above last live = leb live (w * k) && cond (eqb k 0) (eqb last 0) true && cond (ltb k 2) (eqb above 0) true
 
--- the numbers that resuming takes: width and height fit, both rows are below 2^w, and the units and rows fit
+-- the rule of a paused job
+abbrev pub ruleOf : Checkpoint → Rule
+ruleOf t = record { births = t .births; survivals = t .survivals }
+
+-- the numbers that resuming takes: width and height fit, the rule isn't barred, both rows are below 2^w, and the units and rows fit
 unfoldable pub checkpointFits : Checkpoint → Bool
 checkpointFits t =
     among 10 (t .width) &&
     among 60 (t .height) &&
+    ruleFits (ruleOf t) &&
     ltb (t .above) (2 ^ t .width) &&
     ltb (t .last) (2 ^ t .width) &&
     unitsFit (t .width) (t .height) (t .units) (t .mark) &&
@@ -109,8 +118,8 @@ jobFits j = checkpointFits (numbersOf j) && stageFits (j .width) (j .height) (j 
 
 -- ---- opening, pausing, resuming
 -- the job that opening hands out, at unit 0
-abbrev pub start : ℕ → ℕ → Job
-start w h = record { width = w; height = h; units = 0; stage = Stage.Filling }
+abbrev pub start : Rule → ℕ → ℕ → Job
+start rule w h = record { rule = rule; width = w; height = h; units = 0; stage = Stage.Filling }
 
 -- the job that resuming hands out
 unfoldable pub stageOf : Checkpoint → Stage
@@ -120,11 +129,11 @@ stageOf t =
     (cond (ltb (t .units) (tableSize (t .width) (t .height))) Stage.Filling (Stage.Choosing (t .above) (t .last) (t .live))))
 
 abbrev pub jobOf : Checkpoint → Job
-jobOf t = record { width = t .width; height = t .height; units = t .units; stage = stageOf t }
+jobOf t = record { rule = ruleOf t; width = t .width; height = t .height; units = t .units; stage = stageOf t }
 
--- opening: 1, 2, 3, 4
-unfoldable pub openRule : ℕ → ℕ → List ℕ → Answer
-openRule w h givens = sizeCheck w h then givensCheck w h givens then gives (jobSays (start w h))
+-- opening: 1, 2, 13, 3, 4
+unfoldable pub openRule : Rule → ℕ → ℕ → List ℕ → Answer
+openRule rule w h givens = gridCheck rule w h then givensCheck w h givens then gives (jobSays (start rule w h))
 
 -- pausing: 7
 unfoldable pub pauseRule : Job → Answer

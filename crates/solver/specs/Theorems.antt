@@ -13,7 +13,8 @@ use Rattle.board.specs.Boards.{Sized, Board}
 use Rattle.board.specs.Sums.{total}
 use Rattle.elimination.specs.Kind.{entry, rightEntry, rightRows}
 use Rattle.elimination.specs.Endings.{Ending}
-use Rattle.rule.specs.Rule.{conway}
+use Rattle.rule.specs.Rule.{Allowed, nextUnder}
+use Rattle.rule.specs.declared.Rule.{Rule}
 use Rattle.life.specs.Rows.{rowOf}
 use Rattle.solver.specs.Grid.{KeepsGivens, Solution, BestBy, Optimal, score, population}
 use Rattle.score_table.specs.Rows.{rowWorth}
@@ -30,22 +31,23 @@ abbrev pub allRows : ℕ → ℕ → List ℕ → List ℕ
 allRows w h board = nextRows w h board 0 h
 
 -- the k rows cs may stand below a over b and end the board there: every three neighbouring rows agree, and each keeps its givens
-abbrev pub GridEnding : ℕ → ℕ → List ℕ → ℕ → ℕ → ℕ → List ℕ → Type 0
-GridEnding w h givens k a b cs = Ending (kindOf conway w h givens) k a b cs
+abbrev pub GridEnding : Rule → ℕ → ℕ → List ℕ → ℕ → ℕ → ℕ → List ℕ → Type 0
+GridEnding rule w h givens k a b cs = Ending (kindOf (nextUnder rule) w h givens) k a b cs
 
 -- below two dead rows, a board's rows are an ending exactly when the board is a solution
 abbrev pub EndingsAreSolutions : Type 0
-EndingsAreSolutions = (w h : ℕ) (givens board : List ℕ) → Board w h board → GridEnding w h givens h 0 0 (allRows w h board) ↔ Solution w h givens board
+EndingsAreSolutions =
+    (rule : Rule) → Allowed rule → (w h : ℕ) (givens board : List ℕ) → Board w h board → GridEnding rule w h givens h 0 0 (allRows w h board) ↔ Solution rule w h givens board
 
 -- ---- the rows that are chosen
 -- by right entries either the wanted board is chosen, and the right entry is its score; or there is no solution, and the right entry says so
-pub data BestOrNone (w h : ℕ) (givens : List ℕ) : Type 0 where
-  best : (board : List ℕ) → Optimal w h givens board → allRows w h board ≡ rightRows (kindOf conway w h givens) h 0 0
-      → score w h givens board ≡ rightEntry (kindOf conway w h givens) h 0 0 → BestOrNone w h givens
-  none : ((board : List ℕ) → Solution w h givens board → ⊥) → rightEntry (kindOf conway w h givens) h 0 0 ≡ 65535 → BestOrNone w h givens
+pub data BestOrNone (rule : Rule) (w h : ℕ) (givens : List ℕ) : Type 0 where
+  best : (board : List ℕ) → Optimal rule w h givens board → allRows w h board ≡ rightRows (kindOf (nextUnder rule) w h givens) h 0 0
+      → score w h givens board ≡ rightEntry (kindOf (nextUnder rule) w h givens) h 0 0 → BestOrNone rule w h givens
+  none : ((board : List ℕ) → Solution rule w h givens board → ⊥) → rightEntry (kindOf (nextUnder rule) w h givens) h 0 0 ≡ 65535 → BestOrNone rule w h givens
 
 abbrev pub ChoiceIsOptimal : Type 0
-ChoiceIsOptimal = (w h : ℕ) (givens : List ℕ) → Sized w h → BestOrNone w h givens
+ChoiceIsOptimal = (rule : Rule) → Allowed rule → (w h : ℕ) (givens : List ℕ) → Sized w h → BestOrNone rule w h givens
 
 -- ---- entries
 -- what the last rows of a grid of h rows are worth
@@ -54,24 +56,24 @@ rowsWorth w h givens [] = 0
 rowsWorth w h givens (c ∷ cs) = rowWorth w givens ((h - suc (length cs)) * w) c + rowsWorth w h givens cs
 
 -- x is the greatest worth of k rows that end the board below a over b, or 65,535 where there are none such
-pub data Greatest (w h : ℕ) (givens : List ℕ) (k a b x : ℕ) : Type 0 where
-  greatest : (cs : List ℕ) → GridEnding w h givens k a b cs → rowsWorth w h givens cs ≡ x → x ≤ 600
-      → ((ds : List ℕ) → GridEnding w h givens k a b ds → rowsWorth w h givens ds ≤ x) → Greatest w h givens k a b x
-  noEnding : ((ds : List ℕ) → GridEnding w h givens k a b ds → ⊥) → x ≡ 65535 → Greatest w h givens k a b x
+pub data Greatest (rule : Rule) (w h : ℕ) (givens : List ℕ) (k a b x : ℕ) : Type 0 where
+  greatest : (cs : List ℕ) → GridEnding rule w h givens k a b cs → rowsWorth w h givens cs ≡ x → x ≤ 600
+      → ((ds : List ℕ) → GridEnding rule w h givens k a b ds → rowsWorth w h givens ds ≤ x) → Greatest rule w h givens k a b x
+  noEnding : ((ds : List ℕ) → GridEnding rule w h givens k a b ds → ⊥) → x ≡ 65535 → Greatest rule w h givens k a b x
 
 -- layer i of a table is right: each of its entries (i, b, c) is the right one
-abbrev pub RightLayer : ℕ → ℕ → List ℕ → List ℕ → ℕ → Type 0
-RightLayer w h givens table i = (b c : ℕ) → b < 2 ^ w → c < 2 ^ w → readsOf w table i b c ≡ rightEntry (kindOf conway w h givens) (h - i) b c
+abbrev pub RightLayer : Rule → ℕ → ℕ → List ℕ → List ℕ → ℕ → Type 0
+RightLayer rule w h givens table i = (b c : ℕ) → b < 2 ^ w → c < 2 ^ w → readsOf w table i b c ≡ rightEntry (kindOf (nextUnder rule) w h givens) (h - i) b c
 
 -- over a table whose layer i + 1 is right, the rule of entry (i, a, b) gives the right entry; layer h reads no layer. And a right entry is the
 -- greatest number of free live cells in rows i + 1 to h when row i - 1 is a and row i is b
-pub record EntryRight (w h : ℕ) (givens : List ℕ) (i a b : ℕ) : Type 0 where
-  pub rule : (table : List ℕ) → (i < h → RightLayer w h givens table (i + 1))
-      → entry (kindOf conway w h givens) (h - i) a b (readsOf w table (i + 1) b) ≡ rightEntry (kindOf conway w h givens) (h - i) a b
-  pub means : Greatest w h givens (h - i) a b (rightEntry (kindOf conway w h givens) (h - i) a b)
+pub record EntryRight (rule : Rule) (w h : ℕ) (givens : List ℕ) (i a b : ℕ) : Type 0 where
+  pub from-below : (table : List ℕ) → (i < h → RightLayer rule w h givens table (i + 1))
+      → entry (kindOf (nextUnder rule) w h givens) (h - i) a b (readsOf w table (i + 1) b) ≡ rightEntry (kindOf (nextUnder rule) w h givens) (h - i) a b
+  pub means : Greatest rule w h givens (h - i) a b (rightEntry (kindOf (nextUnder rule) w h givens) (h - i) a b)
 
 abbrev pub EntriesRight : Type 0
-EntriesRight = (w h : ℕ) (givens : List ℕ) → Sized w h → (i a b : ℕ) → i ≤ h → b < 2 ^ w → EntryRight w h givens i a b
+EntriesRight = (rule : Rule) (w h : ℕ) (givens : List ℕ) → Sized w h → (i a b : ℕ) → i ≤ h → b < 2 ^ w → EntryRight rule w h givens i a b
 
 -- ---- the score and all live cells
 -- the cells that are given live
@@ -84,4 +86,4 @@ GivensApart = (w h : ℕ) (givens board : List ℕ) → KeepsGivens w h givens b
 
 -- so the wanted board is the best by all live cells too
 abbrev pub SameBest : Type 0
-SameBest = (w h : ℕ) (givens board : List ℕ) → Optimal w h givens board ↔ BestBy (population w h) w h givens board
+SameBest = (rule : Rule) (w h : ℕ) (givens board : List ℕ) → Optimal rule w h givens board ↔ BestBy (population w h) rule w h givens board

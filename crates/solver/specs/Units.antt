@@ -6,7 +6,8 @@ use Prim.Native.Nat.{ℕ, _+_, _*_, _-_}
 use lib.Dec.{eqb, ltb}
 use lib.ListN.{set}
 use Rattle.elimination.specs.Candidates.{Choice, nothing, chosen}
-use Rattle.rule.specs.Rule.{conway}
+use Rattle.rule.specs.Rule.{nextUnder}
+use Rattle.rule.specs.declared.Rule.{Rule}
 use Rattle.score_table.specs.Rows.{rowWorth}
 use Rattle.solver.specs.Rows.{written}
 use Rattle.score_table.specs.ScoreTable.{tableSize, unitPlace, unitEntry, rowChoice}
@@ -29,11 +30,11 @@ pub data Step : Type 0 where
 abbrev pub filledTo : ℕ → ℕ → ℕ → Stage
 filledTo w h u = cond (ltb u (tableSize w h)) Stage.Filling (Stage.Choosing 0 0 0)
 
-abbrev pub fillStep : List ℕ → ℕ → ℕ → ℕ → List ℕ → List ℕ → Step
-fillStep givens w h u table board =
+abbrev pub fillStep : List ℕ → Rule → ℕ → ℕ → ℕ → List ℕ → List ℕ → Step
+fillStep givens rule w h u table board =
     next record {
-      job = record { width = w; height = h; units = u + 1; stage = filledTo w h (u + 1) };
-      table = set table (unitPlace w h u) (unitEntry conway w h givens table u);
+      job = record { rule = rule; width = w; height = h; units = u + 1; stage = filledTo w h (u + 1) };
+      table = set table (unitPlace w h u) (unitEntry (nextUnder rule) w h givens table u);
       board = board;
     }
 
@@ -43,25 +44,25 @@ abbrev pub chosenTo : ℕ → ℕ → ℕ → ℕ → ℕ → Stage
 chosenTo h k above last n = cond (ltb k h) (Stage.Choosing above last n) (Stage.Finished above last n)
 
 -- a row is written into its part of the board; where there is none, the job ends at row 1, and the table is spoiled at a later row
-abbrev pub chooseStep : List ℕ → ℕ → ℕ → ℕ → ℕ → ℕ → ℕ → List ℕ → List ℕ → Choice ℕ → Step
-chooseStep givens w h u r last soFar table board (chosen c n) =
+abbrev pub chooseStep : List ℕ → Rule → ℕ → ℕ → ℕ → ℕ → ℕ → ℕ → List ℕ → List ℕ → Choice ℕ → Step
+chooseStep givens rule w h u r last soFar table board (chosen c n) =
     next record {
-      job = record { width = w; height = h; units = u + 1; stage = chosenTo h (r + 1) last c (soFar + rowWorth w givens (r * w) c) };
+      job = record { rule = rule; width = w; height = h; units = u + 1; stage = chosenTo h (r + 1) last c (soFar + rowWorth w givens (r * w) c) };
       table = table;
       board = written w c board (r * w) w;
     }
-chooseStep givens w h u r last soFar table board nothing =
-    cond (eqb r 0) (next record { job = record { width = w; height = h; units = u + 1; stage = Stage.Infeasible }; table = table; board = board }) spoiled
+chooseStep givens rule w h u r last soFar table board nothing =
+    cond (eqb r 0) (next record { job = record { rule = rule; width = w; height = h; units = u + 1; stage = Stage.Infeasible }; table = table; board = board }) spoiled
 
 -- ---- a unit, by the job's stage; an ended job stays as it is
-abbrev pub stageStep : List ℕ → ℕ → ℕ → ℕ → Stage → List ℕ → List ℕ → Step
-stageStep givens w h u Stage.Filling table board = fillStep givens w h u table board
-stageStep givens w h u (Stage.Choosing above last soFar) table board =
-    chooseStep givens w h u (u - tableSize w h) last soFar table board (rowChoice conway w h givens table (u - tableSize w h) above last)
-stageStep givens w h u (Stage.Finished above last score) table board =
-    next record { job = record { width = w; height = h; units = u; stage = Stage.Finished above last score }; table = table; board = board }
-stageStep givens w h u Stage.Infeasible table board =
-    next record { job = record { width = w; height = h; units = u; stage = Stage.Infeasible }; table = table; board = board }
+abbrev pub stageStep : List ℕ → Rule → ℕ → ℕ → ℕ → Stage → List ℕ → List ℕ → Step
+stageStep givens rule w h u Stage.Filling table board = fillStep givens rule w h u table board
+stageStep givens rule w h u (Stage.Choosing above last soFar) table board =
+    chooseStep givens rule w h u (u - tableSize w h) last soFar table board (rowChoice (nextUnder rule) w h givens table (u - tableSize w h) above last)
+stageStep givens rule w h u (Stage.Finished above last score) table board =
+    next record { job = record { rule = rule; width = w; height = h; units = u; stage = Stage.Finished above last score }; table = table; board = board }
+stageStep givens rule w h u Stage.Infeasible table board =
+    next record { job = record { rule = rule; width = w; height = h; units = u; stage = Stage.Infeasible }; table = table; board = board }
 
 unfoldable pub unitOf : List ℕ → State → Step
-unitOf givens s = stageStep givens (s .job .width) (s .job .height) (s .job .units) (s .job .stage) (s .table) (s .board)
+unitOf givens s = stageStep givens (s .job .rule) (s .job .width) (s .job .height) (s .job .units) (s .job .stage) (s .table) (s .board)

@@ -6,7 +6,7 @@ use score_table::Picked;
 ghost use mathlib.Core.Path.{_≡_};
 ghost use Prim.Native.Nat.{_+_, _≤_};
 ghost use lib.ListN.{length};
-ghost use Rattle.rule.specs.Rule.{Conway};
+ghost use Rattle.rule.specs.Rule.{Holds, nextUnder};
 ghost use Rattle.solver.specs.Rows.{written};
 ghost use Rattle.solver.specs.Inner.{Chooses, Chosen};
 
@@ -27,10 +27,11 @@ pub fn choose(
     table: &[u16],
     board: &mut [u8],
 ) -> Stepped
-    requires { ⌜ Conway (now next) ⌝ }
+    requires { ⌜ Holds (nextUnder (job .rule)) (now next) ⌝ }
     requires { ⌜ Chooses job above last live (now givens) (now table) (now board) ⌝ }
     ensures { λ r. ⌜ Chosen job above last live (now (givens .entry)) (now (table .entry)) (now (board .entry)) r (now (board .exit)) ⌝ }
 {
+    let rule = job.rule;
     let w = job.width;
     let h = job.height;
     let u = job.units;
@@ -41,6 +42,7 @@ pub fn choose(
                 return Stepped::Spoiled;
             }
             Stepped::Next(Job {
+                rule,
                 width: w,
                 height: h,
                 units: u + 1, // spent, with nothing written
@@ -64,6 +66,7 @@ pub fn choose(
                 }
             };
             Stepped::Next(Job {
+                rule,
                 width: w,
                 height: h,
                 units: u + 1, // one row

@@ -1,7 +1,8 @@
-// A solver for still-life grids: the best still board that keeps the givens, by row elimination. A job works in units, may stop after any of
-// them, be paused into seven numbers and resumed from them, over any leftovers in the lent memory.
+// A solver for still-life grids: under a rule the best still board that keeps the givens, by row elimination. A job works in units, may stop
+// after any of them, be paused into nine numbers and resumed from them, over any leftovers in the lent memory.
 use board::Check;
 use board::Refusal;
+use rule::Rule;
 
 mod choosing;
 mod numbers;
@@ -26,15 +27,16 @@ pub enum Stage {
     Infeasible,
 }
 
-// A job: its grid's width and height, the units done, and its stage.
+// A job: its rule, its grid's width and height, the units done, and its stage.
 pub struct Job {
+    pub rule: Rule,
     pub width: usize,
     pub height: usize,
     pub units: usize,
     pub stage: Stage,
 }
 
-// The seven numbers of a paused job: 0 running, 1 finished, 2 infeasible is its mark.
+// The nine numbers of a paused job: 0 running, 1 finished, 2 infeasible is its mark, and the last two are its rule.
 pub struct Checkpoint {
     pub width: usize,
     pub height: usize,
@@ -43,6 +45,8 @@ pub struct Checkpoint {
     pub last: usize,
     pub live: usize,
     pub mark: usize,
+    pub births: usize,
+    pub survivals: usize,
 }
 
 pub enum Opened {
@@ -75,17 +79,18 @@ pub struct Worked {
     pub status: Status,
 }
 
-// A job at unit 0 for a grid of givens: w × h marks, 0 free, 1 given dead, 2 given live. Refusals 1, 2, 3, 4.
-pub fn open(width: usize, height: usize, givens: &[u8]) -> Opened
-    ensures { λ r. ⌜ Opens width height (now (givens .entry)) r ⌝ }
+// A job at unit 0 under a rule for a grid of givens: w × h marks, 0 free, 1 given dead, 2 given live. Refusals 1, 2, 13, 3, 4.
+pub fn open(rule: Rule, width: usize, height: usize, givens: &[u8]) -> Opened
+    ensures { λ r. ⌜ Opens rule width height (now (givens .entry)) r ⌝ }
 {
-    if let Check::Refused(r) = board::check_size(width, height) {
+    if let Check::Refused(r) = rule::check(rule, width, height) {
         return Opened::Refused(r);
     }
     if let Check::Refused(r) = board::check_givens(width, height, givens) {
         return Opened::Refused(r);
     }
     Opened::Ready(Job {
+        rule,
         width,
         height,
         units: 0,
@@ -101,8 +106,10 @@ impl Checkpoint {
         if !numbers::checkpoint_fits(self) {
             return Resumed::Refused(Refusal::Checkpoint);
         }
+        let rule = numbers::rule_of(self);
         let stage = numbers::stage_of(self);
         Resumed::Ready(Job {
+            rule,
             width: self.width,
             height: self.height,
             units: self.units,

@@ -3,10 +3,11 @@ use crate::Checkpoint;
 use crate::Job;
 use crate::Stage;
 use board::Check;
+use rule::Rule;
 ghost use mathlib.Core.Path.{_≡_};
 ghost use Prim.Native.Nat.{_≤_};
 ghost use Rattle.score_table.specs.ScoreTable.{tableSize};
-ghost use Rattle.solver.specs.Jobs.{unitsFit, rowsChosen, rowsFit, checkpointFits, stageFits, jobFits, numbersOf, stageOf};
+ghost use Rattle.solver.specs.Jobs.{ruleOf, unitsFit, rowsChosen, rowsFit, checkpointFits, stageFits, jobFits, numbersOf, stageOf};
 
 // The entries of the table, h × 4^w.
 pub fn table_size(w: usize, h: usize) -> usize
@@ -58,13 +59,23 @@ fn rows_fit(w: usize, k: usize, above: usize, last: usize, live: usize) -> bool
     if k < 2 { above == 0 } else { true }
 }
 
+// The rule of a paused job.
+pub fn rule_of(t: Checkpoint) -> Rule
+    ensures { λ r. ⌜ r ≡ ruleOf t ⌝ }
+{
+    Rule {
+        births: t.births,
+        survivals: t.survivals,
+    }
+}
+
 // Whether resuming takes the numbers.
 pub fn checkpoint_fits(t: Checkpoint) -> bool
     ensures { λ r. ⌜ r ≡ checkpointFits t ⌝ }
 {
     let w = t.width;
     let h = t.height;
-    if let Check::Refused(_) = board::check_size(w, h) {
+    if let Check::Refused(_) = rule::check(rule_of(t), w, h) {
         return false;
     }
     if t.above >> w != 0 {
@@ -113,10 +124,12 @@ pub fn job_fits(job: Job) -> bool
     stage_fits(job.width, job.height, job.units, stage)
 }
 
-// The seven numbers of a job.
+// The nine numbers of a job.
 pub fn numbers_of(job: Job) -> Checkpoint
     ensures { λ r. ⌜ r ≡ numbersOf job ⌝ }
 {
+    let births = job.rule.births;
+    let survivals = job.rule.survivals;
     let width = job.width;
     let height = job.height;
     let units = job.units;
@@ -130,6 +143,8 @@ pub fn numbers_of(job: Job) -> Checkpoint
             last: 0,
             live: 0,
             mark: 0,
+            births,
+            survivals,
         },
         Stage::Choosing { above, last, live } => Checkpoint {
             width,
@@ -139,6 +154,8 @@ pub fn numbers_of(job: Job) -> Checkpoint
             last,
             live,
             mark: 0,
+            births,
+            survivals,
         },
         Stage::Finished { above, last, score } => Checkpoint {
             width,
@@ -148,6 +165,8 @@ pub fn numbers_of(job: Job) -> Checkpoint
             last,
             live: score,
             mark: 1,
+            births,
+            survivals,
         },
         Stage::Infeasible => Checkpoint {
             width,
@@ -157,6 +176,8 @@ pub fn numbers_of(job: Job) -> Checkpoint
             last: 0,
             live: 0,
             mark: 2,
+            births,
+            survivals,
         },
     }
 }

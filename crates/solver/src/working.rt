@@ -10,7 +10,7 @@ use board::Check;
 use board::Refusal;
 ghost use mathlib.Core.Path.{_≡_};
 ghost use Rattle.board.specs.Answers.{checkSays};
-ghost use Rattle.rule.specs.Rule.{Conway};
+ghost use Rattle.rule.specs.Rule.{Holds, nextUnder};
 ghost use Rattle.solver.specs.Jobs.{workCheck, stageSays, statusSays};
 ghost use Rattle.solver.specs.Calls.{resultOf, worksOn};
 ghost use Rattle.solver.specs.Inner.{Lent, Moves, hasEnded, lentState};
@@ -77,13 +77,14 @@ fn has_ended(stage: Stage) -> bool
 
 // One unit of a job that passed its checks; an ended job stays.
 fn unit(next: &[u8; 512], job: Job, givens: &[u8], table: &mut [u16], board: &mut [u8]) -> Stepped
-    requires { ⌜ Conway (now next) ⌝ }
+    requires { ⌜ Holds (nextUnder (job .rule)) (now next) ⌝ }
     requires { ⌜ Lent job (now givens) (now table) (now board) ⌝ }
     ensures { λ r. ⌜ Moves job (now (givens .entry)) (now (table .entry)) (now (board .entry)) r (now (table .exit)) (now (board .exit)) ⌝ }
 {
     let stage = job.stage;
     match stage {
         Stage::Filling => {
+            let rule = job.rule;
             let w = job.width;
             let h = job.height;
             let u = job.units;
@@ -98,6 +99,7 @@ fn unit(next: &[u8; 512], job: Job, givens: &[u8], table: &mut [u16], board: &mu
                 }
             };
             Stepped::Next(Job {
+                rule,
                 width: w,
                 height: h,
                 units: u + 1, // one entry
@@ -134,7 +136,8 @@ pub fn work_on(
     requires { ⌜ Lent start (now givens) (now table) (now board) ⌝ }
     ensures { λ r. ⌜ resultOf r (now (table .exit)) (now (board .exit)) ≡ worksOn (now (givens .entry)) allowance (lentState start (now (table .entry)) (now (board .entry))) ⌝ }
 {
-    let next = rule::table::conway();
+    let rule = start.rule;
+    let next = rule::table::of(rule);
     let mut job = start;
     let mut left = allowance;
     loop {

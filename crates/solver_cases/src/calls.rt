@@ -5,6 +5,7 @@ use crate::plain;
 use crate::plain::Best;
 use crate::sizes::Size;
 use board::Refusal;
+use rule::Rule;
 use solver::Checkpoint;
 use solver::Job;
 use solver::Opened;
@@ -32,14 +33,14 @@ pub fn exact(s: Size) -> Lent {
     }
 }
 
-pub fn open(w: usize, h: usize, givens: &[u8], n: usize) -> Opened {
+pub fn open(rule: Rule, w: usize, h: usize, givens: &[u8], n: usize) -> Opened {
     let g = least(n, givens.len());
-    solver::open(w, h, &givens[..g])
+    solver::open(rule, w, h, &givens[..g])
 }
 
 // A grid's job, or none where opening is refused.
-pub fn opened(s: Size, givens: &[u8]) -> Job {
-    match open(s.w, s.h, givens, s.cells) {
+pub fn opened(rule: Rule, s: Size, givens: &[u8]) -> Job {
+    match open(rule, s.w, s.h, givens, s.cells) {
         Opened::Ready(job) => job,
         Opened::Refused(_) => no_job(),
     }
@@ -48,6 +49,7 @@ pub fn opened(s: Size, givens: &[u8]) -> Job {
 // A job of no size, which no call takes.
 fn no_job() -> Job {
     Job {
+        rule: rule::conway(),
         width: 0,
         height: 0,
         units: 0,
@@ -106,7 +108,7 @@ pub fn resumed(job: Job) -> Job {
     next
 }
 
-// The seven numbers of a job.
+// The nine numbers of a job.
 pub fn numbers_of(job: Job) -> Checkpoint {
     let stage = job.stage;
     match stage {
@@ -118,6 +120,7 @@ pub fn numbers_of(job: Job) -> Checkpoint {
 }
 
 fn with_stage(job: Job, above: usize, last: usize, live: usize, mark: usize) -> Checkpoint {
+    let rule = job.rule;
     Checkpoint {
         width: job.width,
         height: job.height,
@@ -126,13 +129,16 @@ fn with_stage(job: Job, above: usize, last: usize, live: usize, mark: usize) -> 
         last,
         live,
         mark,
+        births: rule.births,
+        survivals: rule.survivals,
     }
 }
 
 pub fn same_numbers(a: Checkpoint, b: Checkpoint) -> bool {
     let sizes = a.width == b.width && a.height == b.height && a.units == b.units;
     let rows = a.above == b.above && a.last == b.last && a.live == b.live;
-    sizes && rows && a.mark == b.mark
+    let rules = a.births == b.births && a.survivals == b.survivals;
+    sizes && rows && rules && a.mark == b.mark
 }
 
 // Filling and choosing row 1 have the same numbers but the units.

@@ -5,10 +5,12 @@ use crate::marks;
 use crate::memory;
 use crate::memory::Memory;
 use crate::random;
+use crate::rules;
 use crate::sizes;
 use crate::sizes::Size;
 use crate::unit;
 use crate::unit::Ran;
+use rule::Rule;
 use solver::Checkpoint;
 use solver::Job;
 use solver::Resumed;
@@ -33,8 +35,8 @@ struct Pair {
     differs: bool,
 }
 
-// Forged jobs, each with its leftovers.
-pub fn try_jobs() {
+// Forged jobs under a group's rules, each with its leftovers.
+pub fn try_jobs(name: &[u8], group: usize) {
     let mut t = Tally {
         calls: 0,
         spoiled: 0,
@@ -43,13 +45,14 @@ pub fn try_jobs() {
         wrong: 0,
     };
     for k in 0..6000 {
-        t = try_job(k + 3000000, t);
+        let seed = k + 3000000;
+        t = try_job(rules::of_group(group, seed), seed, t);
     }
-    print(t);
+    print(name, t);
 }
 
-fn print(t: Tally) {
-    report::line(b"forged jobs: ", 6000);
+fn print(name: &[u8], t: Tally) {
+    report::line(name, 6000);
     report::line(b"  working calls: ", t.calls);
     report::line(b"  refused for a spoiled table: ", t.spoiled);
     report::line(b"  finished: ", t.finished);
@@ -58,9 +61,9 @@ fn print(t: Tally) {
 }
 
 // Resumes a running job of random numbers, and tries it.
-fn try_job(seed: usize, t: Tally) -> Tally {
+fn try_job(rule: Rule, seed: usize, t: Tally) -> Tally {
     let s = random_size(seed);
-    let numbers = random_numbers(s, seed);
+    let numbers = random_numbers(rule, s, seed);
     let Resumed::Ready(job) = numbers.resume() else {
         return differs(b"a job that resuming refuses", t);
     };
@@ -94,14 +97,14 @@ fn random_size(seed: usize) -> Size {
 }
 
 // Numbers of a running job: anywhere in filling, near its end, or choosing.
-fn random_numbers(s: Size, seed: usize) -> Checkpoint {
+fn random_numbers(rule: Rule, s: Size, seed: usize) -> Checkpoint {
     let most = match random::below(4, seed, 500003) {
         0 => s.entries,
         1 => calls::least(s.entries, 40),
         _ => 0,
     };
     if most == 0 {
-        return choosing(s, seed);
+        return choosing(rule, s, seed);
     }
     let rest = num::wrapping_add_usize(random::below(most, seed, 500004), 1);
     Checkpoint {
@@ -112,10 +115,12 @@ fn random_numbers(s: Size, seed: usize) -> Checkpoint {
         last: 0,
         live: 0,
         mark: 0,
+        births: rule.births,
+        survivals: rule.survivals,
     }
 }
 
-fn choosing(s: Size, seed: usize) -> Checkpoint {
+fn choosing(rule: Rule, s: Size, seed: usize) -> Checkpoint {
     let k = random::below(s.h, seed, 500005);
     let n = sizes::rows(s.w);
     let most = num::wrapping_add_usize(sizes::times(s.w, k), 1);
@@ -127,6 +132,8 @@ fn choosing(s: Size, seed: usize) -> Checkpoint {
         last: random_row(if k < 1 { 1 } else { n }, seed, 500008),
         live: random::below(most, seed, 500010),
         mark: 0,
+        births: rule.births,
+        survivals: rule.survivals,
     }
 }
 
@@ -154,13 +161,14 @@ fn try_call(s: Size, allowance: u32, givens: [u8; memory::CELLS], p: Pair) -> Pa
         return p;
     }
     let job = p.job;
+    let rule = job.rule;
     let before = p.memory;
     let r = calls::work(job, calls::exact(s), &givens, before, allowance);
     let numbers = p.numbers;
     let r2 = unit::work(numbers, &givens, before, allowance);
     let next = compared(p.tally, r, r2);
     if next.differs {
-        marks::print_grid(s, givens);
+        marks::print_grid(rule, s, givens);
     }
     next
 }

@@ -7,8 +7,10 @@ use crate::pieces;
 use crate::pieces::Pieces;
 use crate::plain;
 use crate::plain::Best;
+use crate::rules;
 use crate::sizes;
 use crate::sizes::Size;
+use rule::Rule;
 use std::num;
 
 // What was tried of a group of grids.
@@ -35,7 +37,16 @@ fn nothing() -> Counts {
 
 pub fn try_all() {
     print(b"every grid up to 3 by 3: ", try_every());
-    print(b"pseudo-random grids up to 4 by 4: ", try_random());
+    try_random(b"pseudo-random grids up to 4 by 4: ", 0);
+}
+
+// Rules with a name, and pseudo-random ones, another for each grid.
+pub fn try_rules() {
+    try_random(b"HighLife, pseudo-random grids up to 4 by 4: ", 1);
+    try_random(b"Day & Night, pseudo-random grids up to 4 by 4: ", 2);
+    try_random(b"Seeds, pseudo-random grids up to 4 by 4: ", 3);
+    try_random(b"Life without death, pseudo-random grids up to 4 by 4: ", 4);
+    try_random(b"pseudo-random rules and grids up to 4 by 4: ", 5);
 }
 
 fn print(name: &[u8], c: Counts) {
@@ -87,6 +98,7 @@ fn try_number(s: Size, number: usize, counts: Counts) -> Counts {
     let mut givens = [0u8; memory::CELLS];
     marks::write_digits(&mut givens, s.cells, number);
     try_grid(
+        rule::conway(),
         s,
         num::wrapping_add_usize(counts.grids, 1000000),
         givens,
@@ -94,27 +106,27 @@ fn try_number(s: Size, number: usize, counts: Counts) -> Counts {
     )
 }
 
-// 200 grids of each size.
-fn try_random() -> Counts {
+// 200 grids of each size under a group's rules.
+fn try_random(name: &[u8], group: usize) {
     let mut counts = nothing();
     for k in 0..3200 {
         let size = k / 200;
-        counts = try_seed(sizes::sized(size % 4 + 1, size / 4 + 1), counts);
+        counts = try_seed(group, sizes::sized(size % 4 + 1, size / 4 + 1), counts);
     }
-    counts
+    print(name, counts);
 }
 
-fn try_seed(s: Size, counts: Counts) -> Counts {
+fn try_seed(group: usize, s: Size, counts: Counts) -> Counts {
     let seed = num::wrapping_add_usize(counts.grids, 2000000);
     let mut givens = [0u8; memory::CELLS];
     marks::write_random(&mut givens, s.cells, seed);
-    try_grid(s, seed, givens, counts)
+    try_grid(rules::of_group(group, seed), s, seed, givens, counts)
 }
 
 // One run over leftovers, and pieces over others.
-fn try_grid(s: Size, seed: usize, givens: [u8; memory::CELLS], c: Counts) -> Counts {
-    let job = calls::opened(s, &givens);
-    let best = plain::best_board(s, &givens);
+fn try_grid(rule: Rule, s: Size, seed: usize, givens: [u8; memory::CELLS], c: Counts) -> Counts {
+    let job = calls::opened(rule, s, &givens);
+    let best = plain::best_board(rule, s, &givens);
     let r = calls::work(
         job,
         calls::exact(s),
@@ -133,7 +145,7 @@ fn try_grid(s: Size, seed: usize, givens: [u8; memory::CELLS], c: Counts) -> Cou
         one,
     );
     if wrong != 0 || p.wrong != 0 {
-        marks::print_grid(s, givens);
+        marks::print_grid(rule, s, givens);
     }
     counted(c, best, wrong, p)
 }

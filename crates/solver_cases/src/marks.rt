@@ -2,6 +2,7 @@
 use crate::memory;
 use crate::random;
 use crate::sizes::Size;
+use rule::Rule;
 use std::num;
 
 // The digits of a number to base 3.
@@ -39,14 +40,20 @@ pub fn difference(what: &[u8]) -> usize {
     1
 }
 
-// Prints the grid of a difference.
-pub fn print_grid(s: Size, givens: [u8; memory::CELLS]) {
+// Prints the rule and the grid of a difference.
+pub fn print_grid(rule: Rule, s: Size, givens: [u8; memory::CELLS]) {
+    print_rule(rule);
     report::text(b"  grid: ");
     report::number(s.w);
     report::text(b" by ");
     report::number(s.h);
     report::text(b", givens ");
     write_marks(&givens, s.cells);
+}
+
+pub fn print_rule(rule: Rule) {
+    report::line(b"  births ", rule.births);
+    report::line(b"  survivals ", rule.survivals);
 }
 
 fn write_marks(givens: &[u8], cells: usize) {

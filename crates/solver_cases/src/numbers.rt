@@ -1,9 +1,12 @@
 // Numbers around the edges of the rules: which of them resuming and pausing take.
 use crate::calls;
+use crate::marks;
 use crate::random;
+use crate::rules;
 use crate::sizes;
 use crate::sizes::Size;
 use crate::unit;
+use rule::Rule;
 use solver::Checkpoint;
 use solver::Job;
 use solver::Paused;
@@ -57,6 +60,7 @@ fn print_numbers(c: Checkpoint) {
     report::line(b"  last row ", c.last);
     report::line(b"  live ", c.live);
     report::line(b"  mark ", c.mark);
+    marks::print_rule(unit::rule_of(c));
 }
 
 fn resumes_as(numbers: Checkpoint) -> usize {
@@ -138,6 +142,7 @@ fn random_job(c: Checkpoint, seed: usize) -> Job {
         _ => Stage::Infeasible,
     };
     Job {
+        rule: unit::rule_of(c),
         width: c.width,
         height: c.height,
         units: c.units,
@@ -161,6 +166,7 @@ fn random_numbers(seed: usize) -> Checkpoint {
     };
     let units = random_units(s, mark, seed);
     let n = sizes::rows(s.w);
+    let rule = random_rule(seed);
     Checkpoint {
         width: s.w,
         height: s.h,
@@ -169,6 +175,23 @@ fn random_numbers(seed: usize) -> Checkpoint {
         last: random_row(n, seed, 800008),
         live: random_live(s, units, seed),
         mark,
+        births: rule.births,
+        survivals: rule.survivals,
+    }
+}
+
+// Mostly a rule that is not barred; else one with birth on 0, or with a number around 512 or far above.
+fn random_rule(seed: usize) -> Rule {
+    let rule = rules::of_group(random::below(6, seed, 800012), seed);
+    let large = num::wrapping_add_usize(508, random::below(8, seed, 800013));
+    match random::below(16, seed, 800014) {
+        0 => rules::numbered(num::wrapping_add_usize(rule.births, 1), rule.survivals),
+        1 => rules::numbered(large, rule.survivals),
+        2 => rules::numbered(rule.births, large),
+        3 => rules::numbered(510, 511),
+        4 => rules::numbered(num::wrapping_sub_usize(0, large), rule.survivals),
+        5 => rules::numbered(rule.births, num::wrapping_sub_usize(0, large)),
+        _ => rule,
     }
 }
 

@@ -228,23 +228,26 @@ fn is_mark_refused(s: Size, job: Job, givens: [u8; memory::CELLS], m: Memory) ->
     is_refused_by(4, p, job, calls::exact(s), bad, m)
 }
 
-// A job whose numbers break a rule.
+// A job whose numbers break a rule: its stage does not fit, its rule has birth on 0, or its units are too many.
 fn forged(job: Job, kind: usize) -> Job {
-    let stage = job.stage;
-    if kind == 6 {
+    if kind == 7 {
+        let rule = job.rule;
+        let stage = job.stage;
         return Job {
+            rule,
             width: job.width,
             height: job.height,
-            units: num::wrapping_sub_usize(0, 1),
-            stage,
+            units: job.units,
+            stage: other_stage(stage),
         };
     }
-    Job {
-        width: job.width,
-        height: job.height,
-        units: job.units,
-        stage: other_stage(stage),
+    let mut next = job;
+    if job.units % 2 == 0 {
+        next.rule.births = 1;
+    } else {
+        next.units = num::wrapping_sub_usize(0, 1);
     }
+    next
 }
 
 // A stage that does not fit the units of a job in this one.

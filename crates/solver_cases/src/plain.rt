@@ -1,6 +1,7 @@
 // Still boards by a plain count of neighbours, and the best one by enumeration, written apart from the library.
 use crate::sizes;
 use crate::sizes::Size;
+use rule::Rule;
 use std::num;
 
 // A row's cell; column j is one more than the ring's, so that none before the ring is negative.
@@ -22,25 +23,44 @@ fn three(w: usize, row: usize, j: usize) -> usize {
 }
 
 // Whether the cell of b in column j, ring counted, keeps its state with a over b over c.
-fn keeps(w: usize, a: usize, b: usize, c: usize, j: usize) -> bool {
+fn keeps(rule: Rule, w: usize, a: usize, b: usize, c: usize, j: usize) -> bool {
     let centre = cell(w, b, num::wrapping_add_usize(j, 1));
     let two = num::wrapping_add_usize(three(w, a, j), three(w, b, j));
     let all = num::wrapping_add_usize(two, three(w, c, j));
     let live = num::wrapping_sub_usize(all, centre);
-    if live == 3 {
-        return centre == 1;
+    if centre == 0 {
+        !is_count(rule.births, live)
+    } else {
+        is_count(rule.survivals, live)
     }
-    if live == 2 {
-        return true;
+}
+
+// Whether n is one of the counts that a number of a rule holds.
+fn is_count(counts: usize, n: usize) -> bool {
+    counts & worth(n) != 0
+}
+
+// What a count adds to its number.
+fn worth(n: usize) -> usize {
+    match n {
+        0 => 1,
+        1 => 2,
+        2 => 4,
+        3 => 8,
+        4 => 16,
+        5 => 32,
+        6 => 64,
+        7 => 128,
+        8 => 256,
+        _ => 0,
     }
-    centre == 0
 }
 
 // Whether every cell of b keeps its state, ring included.
-pub fn agree(w: usize, a: usize, b: usize, c: usize) -> bool {
+pub fn agree(rule: Rule, w: usize, a: usize, b: usize, c: usize) -> bool {
     let end = num::wrapping_add_usize(w, 2);
     for j in 0..end {
-        if !keeps(w, a, b, c, j) {
+        if !keeps(rule, w, a, b, c, j) {
             return false;
         }
     }
@@ -48,7 +68,7 @@ pub fn agree(w: usize, a: usize, b: usize, c: usize) -> bool {
 }
 
 // Whether a board is still: its cells are the digits of a number. Goes from the ring's last row up to its first.
-fn is_still(w: usize, h: usize, number: usize) -> bool {
+fn is_still(rule: Rule, w: usize, h: usize, number: usize) -> bool {
     let n = sizes::rows(w);
     let end = num::wrapping_add_usize(h, 2);
     let mut rest = number;
@@ -57,7 +77,7 @@ fn is_still(w: usize, h: usize, number: usize) -> bool {
     for k in 0..end {
         let above = rest % n;
         rest = rest / n;
-        if !agree(w, above, row, below) {
+        if !agree(rule, w, above, row, below) {
             return false;
         }
         below = row;
@@ -80,7 +100,7 @@ pub struct Best {
 }
 
 // The first best still board that keeps the givens: board order is the order of the boards' numbers.
-pub fn best_board(s: Size, givens: &[u8]) -> Best {
+pub fn best_board(rule: Rule, s: Size, givens: &[u8]) -> Best {
     let end = boards(s.cells);
     let m = masks_of(givens, 0, s.cells);
     let mut best = 0; // one more than the best score, 0 while there is none
@@ -88,7 +108,7 @@ pub fn best_board(s: Size, givens: &[u8]) -> Best {
     for number in 0..end {
         let v = num::wrapping_add_usize(score(m, number), 1);
         if best < v {
-            if keeps_givens(m, number) && is_still(s.w, s.h, number) {
+            if keeps_givens(m, number) && is_still(rule, s.w, s.h, number) {
                 best = v;
                 first = number;
             }

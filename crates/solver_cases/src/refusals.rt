@@ -3,6 +3,8 @@ use crate::calls;
 use crate::calls::Lent;
 use crate::memory;
 use crate::memory::Memory;
+use crate::rules;
+use rule::Rule;
 use solver::Checkpoint;
 use solver::Job;
 use solver::Opened;
@@ -13,10 +15,12 @@ use solver::Status;
 use std::num;
 
 pub fn sized_openings() {
-    open_sized(b"open, width 0, height 61, 3 givens", 0, 61);
-    open_sized(b"open, width 11, height 0, 3 givens", 11, 0);
-    open_sized(b"open, height 0, 3 givens", 2, 0);
-    open_sized(b"open, height 61, 3 givens", 2, 61);
+    open_sized(b"open, width 0, height 61, 3 givens", 8, 0, 61);
+    open_sized(b"open, width 11, height 0, 3 givens", 8, 11, 0);
+    open_sized(b"open, height 0, 3 givens", 8, 2, 0);
+    open_sized(b"open, height 61, 3 givens", 8, 2, 61);
+    open_sized(b"open, height 0, births 9, 3 givens", 9, 2, 0);
+    open_sized(b"open, births 9, givens 0, 3, 0 of 4", 9, 2, 2);
 }
 
 pub fn given_openings() {
@@ -28,22 +32,34 @@ pub fn given_openings() {
 
 // Openings of the largest grid, and of larger ones.
 pub fn large_openings() {
-    open(b"open, 10 by 60", 10, 60, &[0; 600]);
-    open(b"open, 11 by 60", 11, 60, &[0; 660]);
-    open(b"open, 10 by 61", 10, 61, &[0; 610]);
+    open(b"open, 10 by 60", rule::conway(), 10, 60, &[0; 600]);
+    open(b"open, 11 by 60", rule::conway(), 11, 60, &[0; 660]);
+    open(b"open, 10 by 61", rule::conway(), 10, 61, &[0; 610]);
 }
 
-fn open_sized(name: &[u8], w: usize, h: usize) {
-    open(name, w, h, &[0, 3, 0]);
+// Openings under other rules.
+pub fn ruled_openings() {
+    open_ruled(b"open, births 1", 1, 12);
+    open_ruled(b"open, births 512", 512, 12);
+    open_ruled(b"open, survivals 512", 8, 512);
+    open_ruled(b"open, births 510, survivals 511", 510, 511);
+}
+
+fn open_ruled(name: &[u8], births: usize, survivals: usize) {
+    open(name, rules::numbered(births, survivals), 2, 2, &[0; 4]);
+}
+
+fn open_sized(name: &[u8], births: usize, w: usize, h: usize) {
+    open(name, rules::numbered(births, 12), w, h, &[0, 3, 0]);
 }
 
 fn open_given(name: &[u8], givens: &[u8]) {
-    open(name, 2, 2, givens);
+    open(name, rule::conway(), 2, 2, givens);
 }
 
-fn open(name: &[u8], w: usize, h: usize, givens: &[u8]) {
+fn open(name: &[u8], rule: Rule, w: usize, h: usize, givens: &[u8]) {
     report::text(name);
-    match calls::open(w, h, givens, givens.len()) {
+    match calls::open(rule, w, h, givens, givens.len()) {
         Opened::Ready(job) => report::line(b": a job at unit ", job.units),
         Opened::Refused(r) => report::refusal(r),
     }
@@ -57,6 +73,7 @@ pub fn job_workings() {
         filling(2, 32),
         &[0, 3, 0],
     );
+    work_short(b"work, births 9, and all below", barred(), &[0, 3, 0]);
 }
 
 pub fn given_workings() {
@@ -92,11 +109,19 @@ fn lend(name: &[u8], entries: usize, cells: usize, allowance: u32) {
 // A job at a unit of a grid two high.
 fn filling(width: usize, units: usize) -> Job {
     Job {
+        rule: rule::conway(),
         width,
         height: 2,
         units,
         stage: Stage::Filling,
     }
+}
+
+// A job of 2 by 2 with birth on 0.
+fn barred() -> Job {
+    let mut job = filling(2, 0);
+    job.rule.births = 9;
+    job
 }
 
 // A call over some of a memory of 700 and 9: its answer, the units done, and what was written.
@@ -159,21 +184,23 @@ fn filled(entry: u16, cell: u8) -> Memory {
 }
 
 pub fn resumptions() {
-    resume(b"resume, mark 3", 0, 0, 3);
-    resume(b"resume, row 4 of width 2", 34, 4, 0);
-    resume(b"resume, finished at unit 33 of 34", 33, 0, 1);
-    resume(b"resume, finished at unit 34", 34, 0, 1);
-    resume(b"resume, none at unit 33", 33, 0, 2);
+    resume(b"resume, mark 3", 8, 0, 0, 3);
+    resume(b"resume, row 4 of width 2", 8, 34, 4, 0);
+    resume(b"resume, births 9", 9, 0, 0, 0);
+    resume(b"resume, finished at unit 33 of 34", 8, 33, 0, 1);
+    resume(b"resume, finished at unit 34", 8, 34, 0, 1);
+    resume(b"resume, none at unit 33", 8, 33, 0, 2);
 }
 
 pub fn pauses() {
     pause(b"pause, width 11", filling(11, 0));
     pause(b"pause, unit 32 of 32 in filling", filling(2, 32));
+    pause(b"pause, births 9", barred());
     pause(b"pause, unit 31 in filling", filling(2, 31));
 }
 
 // Resumes a job of 2 by 2.
-fn resume(name: &[u8], units: usize, last: usize, mark: usize) {
+fn resume(name: &[u8], births: usize, units: usize, last: usize, mark: usize) {
     let numbers = Checkpoint {
         width: 2,
         height: 2,
@@ -182,6 +209,8 @@ fn resume(name: &[u8], units: usize, last: usize, mark: usize) {
         last,
         live: 0,
         mark,
+        births,
+        survivals: 12,
     };
     report::text(name);
     match numbers.resume() {
@@ -215,6 +244,7 @@ pub fn spoiled() {
 fn spoiled_call(name: &[u8], units: usize, allowance: u32, m: Memory) -> Memory {
     let last = if units == 48 { 0 } else { 3 };
     let job = Job {
+        rule: rule::conway(),
         width: 2,
         height: 3,
         units,

@@ -5,6 +5,7 @@ use crate::plain;
 use crate::plain::Masks;
 use crate::sizes;
 use crate::sizes::Size;
+use rule::Rule;
 use solver::Checkpoint;
 use solver::Job;
 use solver::Stage;
@@ -66,19 +67,27 @@ fn fill(s: Size, c: Checkpoint, givens: &[u8], table: &mut [u16]) -> Checkpoint 
     let i = num::wrapping_sub_usize(s.h, u / sizes::layer(s.w));
     let a = u / n % n;
     let b = u % n;
-    let entry = entry_of(s, i, a, b, givens, table);
+    let entry = entry_of(rule_of(c), s, i, a, b, givens, table);
     store(table, place(s.w, i, a, b), entry);
     let mut next = c;
     next.units = num::wrapping_add_usize(u, 1);
     next
 }
 
-fn entry_of(s: Size, i: usize, a: usize, b: usize, givens: &[u8], table: &[u16]) -> usize {
+fn entry_of(
+    rule: Rule,
+    s: Size,
+    i: usize,
+    a: usize,
+    b: usize,
+    givens: &[u8],
+    table: &[u16],
+) -> usize {
     if i == s.h {
-        return last_entry(s.w, a, b);
+        return last_entry(rule, s.w, a, b);
     }
     let m = plain::masks_of(givens, sizes::times(i, s.w), s.w);
-    best_below(s.w, a, b, num::wrapping_add_usize(i, 1), m, table).sum
+    best_below(rule, s.w, a, b, num::wrapping_add_usize(i, 1), m, table).sum
 }
 
 // Row k, the first that has none.
@@ -87,7 +96,7 @@ fn choose(s: Size, c: Checkpoint, givens: &[u8], table: &[u16], board: &mut [u8]
     let k = num::wrapping_add_usize(before, 1);
     let at = sizes::times(before, s.w);
     let m = plain::masks_of(givens, at, s.w);
-    let best = best_below(s.w, c.above, c.last, k, m, table);
+    let best = best_below(rule_of(c), s.w, c.above, c.last, k, m, table);
     if best.sum == 65535 {
         return without_row(c, k);
     }
@@ -118,11 +127,15 @@ fn with_row(c: Checkpoint, row: usize, score: usize, is_last: bool) -> Checkpoin
 }
 
 // An entry of layer h.
-fn last_entry(w: usize, a: usize, b: usize) -> usize {
-    if !plain::agree(w, a, b, 0) {
+fn last_entry(rule: Rule, w: usize, a: usize, b: usize) -> usize {
+    if !plain::agree(rule, w, a, b, 0) {
         return 65535;
     }
-    if plain::agree(w, b, 0, 0) { 0 } else { 65535 }
+    if plain::agree(rule, w, b, 0, 0) {
+        0
+    } else {
+        65535
+    }
 }
 
 // The best row below two, and its free live cells with its entry, 65,535 for none.
@@ -132,12 +145,20 @@ struct Below {
 }
 
 // The best row k below a over b.
-fn best_below(w: usize, a: usize, b: usize, k: usize, m: Masks, table: &[u16]) -> Below {
+fn best_below(
+    rule: Rule,
+    w: usize,
+    a: usize,
+    b: usize,
+    k: usize,
+    m: Masks,
+    table: &[u16],
+) -> Below {
     let end = sizes::rows(w);
     let mut best = 0; // one more than the best sum, 0 while there is none
     let mut row = 0;
     for c in 0..end {
-        let v = offer(w, a, b, c, k, m, table);
+        let v = offer(rule, w, a, b, c, k, m, table);
         if best < v {
             best = v;
             row = c;
@@ -150,9 +171,18 @@ fn best_below(w: usize, a: usize, b: usize, k: usize, m: Masks, table: &[u16]) -
 }
 
 // One more than the sum of row c, 0 where it cannot be row k below a over b.
-fn offer(w: usize, a: usize, b: usize, c: usize, k: usize, m: Masks, table: &[u16]) -> usize {
+fn offer(
+    rule: Rule,
+    w: usize,
+    a: usize,
+    b: usize,
+    c: usize,
+    k: usize,
+    m: Masks,
+    table: &[u16],
+) -> usize {
     let entry = load(table, place(w, k, b, c));
-    if entry <= 600 && plain::keeps_givens(m, c) && plain::agree(w, a, b, c) {
+    if entry <= 600 && plain::keeps_givens(m, c) && plain::agree(rule, w, a, b, c) {
         return num::wrapping_add_usize(num::wrapping_add_usize(plain::score(m, c), entry), 1);
     }
     0
@@ -188,9 +218,17 @@ fn write_row(board: &mut [u8], from: usize, w: usize, row: usize) {
     }
 }
 
+pub fn rule_of(c: Checkpoint) -> Rule {
+    Rule {
+        births: c.births,
+        survivals: c.survivals,
+    }
+}
+
 // The job of these numbers; one that could not choose a row stands before it.
 pub fn job_of(c: Checkpoint) -> Job {
     Job {
+        rule: rule_of(c),
         width: c.width,
         height: c.height,
         units: c.units,
@@ -223,7 +261,12 @@ fn stage_of(c: Checkpoint) -> Stage {
 
 // Whether resuming takes the numbers.
 pub fn takes(c: Checkpoint) -> bool {
-    is_size(c.width, c.height) && are_rows(c) && is_stage(c)
+    is_size(c.width, c.height) && is_rule(c) && are_rows(c) && is_stage(c)
+}
+
+// No birth on 0, and no count above 8.
+fn is_rule(c: Checkpoint) -> bool {
+    c.births % 2 == 0 && c.births < 512 && c.survivals < 512
 }
 
 fn is_size(w: usize, h: usize) -> bool {

@@ -56,7 +56,7 @@ fn least(a: usize, b: usize) -> usize
 }
 
 fn solve_part(side: usize, givens: &[u8], table: &mut [u16], board: &mut [u8]) {
-    match solver::open(side, side, givens) {
+    match solver::open(rule::conway(), side, side, givens) {
         Opened::Ready(job) => {
             let ended = run(job, givens, table, board);
             print(side, ended, board);
@@ -112,7 +112,7 @@ fn print(side: usize, job: Job, board: &[u8]) {
     }
     report::text(b", units ");
     report::number(job.units);
-    match life::judge(side, side, board) {
+    match life::judge(rule::conway(), side, side, board) {
         Verdict::Still => report::text(b", still\n"),
         Verdict::Changes { row: _, column: _ } => report::text(b", not still\n"),
         Verdict::Refused(r) => report::refusal(r),

@@ -6,10 +6,10 @@ use Rattle.setter_cases.proofs.plain.wrong_bytes.Statement.{statement}
 use Rattle.setter_cases.proofs.plain.wrong_bytes.Tie as tie
 
 abbrev Inv-loop : tie.InvT-loop
-Inv-loop w h cells ring wrong₀ from₀ r₀ r-end wrong from r = (r ≤ r-end) × (r-end ≤ 62)
+Inv-loop counts w h cells ring wrong₀ from₀ r₀ r-end wrong from r = (r ≤ r-end) × (r-end ≤ 62)
 
 abbrev μ-loop : tie.MeasureT-loop
-μ-loop w h cells ring wrong₀ from₀ r₀ r-end wrong from r = r-end - r
+μ-loop counts w h cells ring wrong₀ from₀ r₀ r-end wrong from r = r-end - r
 
 add-r-end : tie.Need-add-r-end Inv-loop μ-loop
 add-r-end c = search needs

@@ -6,10 +6,10 @@ use Rattle.setter_cases.proofs.plain.wrong_in_row.Statement.{statement}
 use Rattle.setter_cases.proofs.plain.wrong_in_row.Tie as tie
 
 abbrev Inv-loop : tie.InvT-loop
-Inv-loop w h cells ring r from wrong₀ c₀ c-end wrong c = (c ≤ c-end) × (c-end ≤ 12)
+Inv-loop counts w h cells ring r from wrong₀ c₀ c-end wrong c = (c ≤ c-end) × (c-end ≤ 12)
 
 abbrev μ-loop : tie.MeasureT-loop
-μ-loop w h cells ring r from wrong₀ c₀ c-end wrong c = c-end - c
+μ-loop counts w h cells ring r from wrong₀ c₀ c-end wrong c = c-end - c
 
 add-c-end : tie.Need-add-c-end Inv-loop μ-loop
 add-c-end c = search needs

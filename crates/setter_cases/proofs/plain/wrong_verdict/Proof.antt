@@ -6,10 +6,10 @@ use Rattle.setter_cases.proofs.plain.wrong_verdict.Statement.{statement
 use Rattle.setter_cases.proofs.plain.wrong_verdict.Tie as tie
 
 abbrev Inv-loop : tie.InvT-loop
-Inv-loop w h cells v r₀ r-end r = (r ≤ r-end) × (r-end ≤ 62)
+Inv-loop counts w h cells v r₀ r-end r = (r ≤ r-end) × (r-end ≤ 62)
 
 abbrev μ-loop : tie.MeasureT-loop
-μ-loop w h cells v r₀ r-end r = r-end - r
+μ-loop counts w h cells v r₀ r-end r = r-end - r
 
 add-r-end : tie.Need-add-r-end Inv-loop μ-loop
 add-r-end c = search needs

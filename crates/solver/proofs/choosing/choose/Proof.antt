@@ -7,7 +7,7 @@ use Prim.Native.Nat.{ℕ, _+_, _*_, _-_, _^_, _≤_, _<_}
 use native.Mathlib.Nat.{mul-le-mul}
 use native.Mathlib.Omega.{arith}
 use lib.ListN.{length}
-use Rattle.rule.specs.Rule.{conway}
+use Rattle.rule.specs.Rule.{nextUnder}
 use Rattle.score_table.specs.Rows.{rowWorth}
 use Rattle.score_table.specs.ScoreTable.{tableSize, rowChoice}
 use Rattle.score_table.specs.Calls.{pickedChoice}
@@ -20,40 +20,40 @@ use Rattle.solver.proofs.choosing.choose.Statement.{statement}
 use Rattle.solver.proofs.choosing.choose.Tie as tie
 
 -- the row is one of the board's
-inside : (d : tie.After-table-size) → let j = d .before .before .before .before .args .job in j .units - d .table-size .result < j .height
-inside d = let p = d .before .before .before .before .pre .1 in omega (arith, p .from, p .until, d .table-size .ensures .0)
+inside : (d : tie.After-table-size) → let j = d .before .before .before .before .before .args .job in j .units - d .table-size .result < j .height
+inside d = let p = d .before .before .before .before .before .pre .1 in omega (arith, p .from, p .until, d .table-size .ensures .0)
 
-beyond : (d : tie.After-table-size) → let j = d .before .before .before .before .args .job in
+beyond : (d : tie.After-table-size) → let j = d .before .before .before .before .before .args .job in
     j .units - d .table-size .result ≡ j .units - tableSize (j .width) (j .height)
-beyond d = ap (λ (x : ℕ). d .before .before .before .before .args .job .units - x) (d .table-size .ensures .0)
+beyond d = ap (λ (x : ℕ). d .before .before .before .before .before .args .job .units - x) (d .table-size .ensures .0)
 
 -- its cells are within the board
-cells-room : (d : tie.After-table-size) → let g = d .before .before .before .before .args in
+cells-room : (d : tie.After-table-size) → let g = d .before .before .before .before .before .args in
     (g .job .units - d .table-size .result) * g .job .width + g .job .width ≤ length (g .board .now)
-cells-room d = rw (d .before .before .before .before .pre .1 .cells) (row-room _ _ _ (inside d))
+cells-room d = rw (d .before .before .before .before .before .pre .1 .cells) (row-room _ _ _ (inside d))
 
-cells-le : (d : tie.After-table-size) → length (d .before .before .before .before .args .board .now) ≤ 600
-cells-le d = let p = d .before .before .before .before .pre .1 in rw (p .cells) (mul-le-mul (p .memory .narrow) (p .memory .low))
+cells-le : (d : tie.After-table-size) → length (d .before .before .before .before .before .args .board .now) ≤ 600
+cells-le d = let p = d .before .before .before .before .before .pre .1 in rw (p .cells) (mul-le-mul (p .memory .narrow) (p .memory .low))
 
 -- what is chosen is the rule's choice
 choice : (b : tie.After-choose-row) →
-    let g = b .before .before .before .before .before .args in
+    let g = b .before .before .before .before .before .before .args in
     pickedChoice (b .choose-row .result)
-    ≡ rowChoice conway (g .job .width) (g .job .height) (g .givens .now) (g .table .now) (g .job .units - b .before .table-size .result) (g .above) (g .last)
+    ≡ rowChoice (nextUnder (g .job .rule)) (g .job .width) (g .job .height) (g .givens .now) (g .table .now) (g .job .units - b .before .table-size .result) (g .above) (g .last)
 choice b =
-    let s = b .before .before .before .before .before in
+    let s = b .before .before .before .before .before .before in
     let p = s .pre .1 in
-    b .choose-row .ensures .is ∙ picked _ (s .pre .0) _ _ _ _ (p .memory) _ _ _ (inside (b .before)) (p .over) (p .below)
+    b .choose-row .ensures .is ∙ picked _ _ (s .pre .0) _ _ _ _ (p .memory) _ _ _ (inside (b .before)) (p .over) (p .below)
 
 -- a row is worth at most its width
 worth-le : (w : ℕ) (g : List ℕ) (at c : ℕ) {x : ℕ} → x ≡ rowWorth w g at c → x ≤ w
 worth-le w g at c e = rw e (row-worth-le w g at c)
 
 table-size-requires : tie.Need-table-size-requires
-table-size-requires c κs = let p = c .before .before .before .pre .1 .memory in (p .narrow, p .low)
+table-size-requires c κs = let p = c .before .before .before .before .pre .1 .memory in (p .narrow, p .low)
 
 sub-r : tie.Need-sub-r
-sub-r c = let p = c .before .before .before .before .pre .1 in omega (arith, p .from, c .table-size .ensures .0)
+sub-r c = let p = c .before .before .before .before .before .pre .1 in omega (arith, p .from, c .table-size .ensures .0)
 
 choose-row-requires : tie.Need-choose-row-requires
 choose-row-requires c κs = search needs
@@ -66,8 +66,8 @@ returns c =
     let b = c .before .before .before in
     chosen-spoiled _ _ _ _ _ _ _ _ (beyond (b .before)) (c .if1 .taken) (sym (choice b) ∙ ap pickedChoice (c .before .enum-told .given .1))
 
-add-t21 : tie.Need-add-t21
-add-t21 c = search needs
+add-t22 : tie.Need-add-t22
+add-t22 c = search needs
 
 enum-known-row : tie.Need-enum-known-row
 enum-known-row c = search needs
@@ -78,19 +78,19 @@ mul-write-row c = let d = c .before .before .before .before .before in omega (ar
 write-row-requires : tie.Need-write-row-requires
 write-row-requires c κs =
     let d = c .before .before .before .before .before in
-    (d .before .before .before .before .pre .1 .memory .narrow, cells-room d)
+    (d .before .before .before .before .before .pre .1 .memory .narrow, cells-room d)
 
 add-n : tie.Need-add-n
 add-n c =
     let b = c .before .before .before .before .before .before .before in
-    let p = b .before .before .before .before .before .pre .1 in
+    let p = b .before .before .before .before .before .before .pre .1 in
     omega (arith, p .few, p .memory .narrow, worth-le _ _ _ _ (b .choose-row .ensures .worth _ _ _ (c .before .before .before .before .before .row .given .1)))
 
 add-if2 : tie.Need-add-if2
 add-if2 c = search needs
 
-add-t27 : tie.Need-add-t27
-add-t27 c = search needs
+add-t28 : tie.Need-add-t28
+add-t28 c = search needs
 
 returns-2 : tie.Need-returns-2
 returns-2 c =
@@ -118,13 +118,13 @@ choose-spec =
     choose-row-requires
     enum-told
     returns
-    add-t21
+    add-t22
     enum-known-row
     mul-write-row
     write-row-requires
     add-n
     add-if2
-    add-t27
+    add-t28
     returns-2
     same-length
     returns-3)

@@ -61,7 +61,7 @@ returns-3 c =
     simp (job-at (d .before .before .before), marks-at d, sym (c .before .has-length .ensures) ∙ not-true _ (c .if2 .taken))
 
 table-size-requires : tie.Need-table-size-requires
-table-size-requires c κs = let s = fits-at _ (job-at (c .before .before .before .before .before)) .size in (s .narrow, s .low)
+table-size-requires c κs = let s = fits-at _ (job-at (c .before .before .before .before .before)) .frame .size in (s .narrow, s .low)
 
 returns-4 : tie.Need-returns-4
 unfolding workCheck

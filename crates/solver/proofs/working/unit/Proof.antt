@@ -20,13 +20,13 @@ fill-requires c κs = search needs
 
 -- while the job fills, its memory fits and its units are below the table's entries
 add-if1 : tie.Need-add-if1
-add-if1 c = let s = c .before .before .before .before .before .before .before .before .before in let M = lent-memory (s .pre .1) in omega (arith, lent-early (s .pre .1) (c .before .before .before .before .enum-told .given .1), table-le (M .narrow) (M .low))
+add-if1 c = let s = c .before .before .before .before .before .before .before .before .before .before in let M = lent-memory (s .pre .1) in omega (arith, lent-early (s .pre .1) (c .before .before .before .before .before .enum-told .given .1), table-le (M .narrow) (M .low))
 
 table-size-requires : tie.Need-table-size-requires
-table-size-requires c κs = let M = lent-memory (c .before .before .before .before .before .before .before .before .before .pre .1) in (M .narrow, M .low)
+table-size-requires c κs = let M = lent-memory (c .before .before .before .before .before .before .before .before .before .before .pre .1) in (M .narrow, M .low)
 
-add-t18 : tie.Need-add-t18
-add-t18 c = let s = c .before .before .before .before .before .before .before .before .before .before .before in let M = lent-memory (s .pre .1) in omega (arith, lent-early (s .pre .1) (c .before .before .before .before .before .before .enum-told .given .1), table-le (M .narrow) (M .low))
+add-t19 : tie.Need-add-t19
+add-t19 c = let s = c .before .before .before .before .before .before .before .before .before .before .before .before in let M = lent-memory (s .pre .1) in omega (arith, lent-early (s .pre .1) (c .before .before .before .before .before .before .before .enum-told .given .1), table-le (M .narrow) (M .low))
 
 enum-known-stage : tie.Need-enum-known-stage
 enum-known-stage c = search needs
@@ -45,12 +45,12 @@ same-length c = search needs
 
 returns : tie.Need-returns
 returns c =
-    moves-fill _ _ _ _ (c .before .before .before .before .before .before .enum-told .given .1) _
+    moves-fill _ _ _ _ (c .before .before .before .before .before .before .before .enum-told .given .1) _
     (⊎-elim (λ x. filling-on _ _ _ _ (x .0 .taken) (c .before .table-size .ensures .0) _ (x .1))
     (λ x. filling-over _ _ _ _ (x .0 .left) (c .before .table-size .ensures .0) _ (x .1)) (c .if1 .came))
     _ (c .before .before .before .before .fill .ensures
-    ∙ filled _ (c .before .before .before .before .before .before .before .before .before .before .before .pre .0) _ _ _ _ (lent-memory (c .before .before .before .before .before .before .before .before .before .before .before .pre .1)) _
-    (lent-early (c .before .before .before .before .before .before .before .before .before .before .before .pre .1) (c .before .before .before .before .before .before .enum-told .given .1)))
+    ∙ filled _ _ (c .before .before .before .before .before .before .before .before .before .before .before .before .pre .0) _ _ _ _ (lent-memory (c .before .before .before .before .before .before .before .before .before .before .before .before .pre .1)) _
+    (lent-early (c .before .before .before .before .before .before .before .before .before .before .before .before .pre .1) (c .before .before .before .before .before .before .before .enum-told .given .1)))
 
 same-length-2 : tie.Need-same-length-2
 same-length-2 c = search needs
@@ -75,7 +75,7 @@ unit-spec =
     fill-requires
     add-if1
     table-size-requires
-    add-t18
+    add-t19
     enum-known-stage
     choose-requires
     enum-told-2

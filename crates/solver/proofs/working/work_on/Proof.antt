@@ -4,9 +4,10 @@
 use mathlib.Core.Path.{_≡_, refl, sym, _∙_}
 use mathlib.Core.Logic.{⊎-elim}
 use lib.ListN.{length}
+use Rattle.rule.specs.Rule.{Holds, nextUnder}
 use Rattle.solver.specs.Calls.{worksOn}
 use Rattle.solver.specs.Inner.{Lent, lentState}
-use Rattle.solver.proofs.Steps.{works-moved, works-turned, works-spent, works-over, lent-moved}
+use Rattle.solver.proofs.Steps.{works-moved, works-turned, works-spent, works-over, lent-moved, rule-moved}
 use borrow.Author.Needs.{needs}
 use Rattle.solver.proofs.working.work_on.Statement.{statement}
 use Rattle.solver.proofs.working.work_on.Tie as tie
@@ -16,22 +17,23 @@ Inv-loop givens table₀ board₀ allowance next job₀ left₀ table board job 
     (worksOn givens left (lentState job table board) ≡ worksOn givens allowance (lentState job₀ table₀ board₀)) ×
     (length table ≡ length table₀) ×
     (length board ≡ length board₀) ×
-    Lent job givens table board
+    Lent job givens table board ×
+    Holds (nextUnder (job .rule)) next
 
 abbrev μ-loop : tie.MeasureT-loop
 μ-loop givens table₀ board₀ allowance next job₀ left₀ table board job left = left
 
-conway-requires : tie.Need-conway-requires Inv-loop μ-loop
-conway-requires c κs = search needs
+of-requires : tie.Need-of-requires Inv-loop μ-loop
+of-requires c κs = search needs
 
 loop-holds : tie.Need-loop-holds Inv-loop μ-loop
-loop-holds c = (refl, refl, refl, c .before .before .before .before .pre)
+loop-holds c = (refl, refl, refl, c .before .before .before .before .before .pre, c .of .ensures)
 
 has-ended-requires : tie.Need-has-ended-requires Inv-loop μ-loop
 has-ended-requires c κs = search needs
 
 unit-requires : tie.Need-unit-requires Inv-loop μ-loop
-unit-requires c κs = (c .before .before .before .before .before .before .before .conway .ensures, c .before .before .before .before .before .before .loop .inv .3)
+unit-requires c κs = let l = c .before .before .before .before .before .before .loop in (l .inv .4, l .inv .3)
 
 enum-known-j : tie.Need-enum-known-j Inv-loop μ-loop
 enum-known-j c = search needs
@@ -65,6 +67,7 @@ loop-again c =
       u .kept .1 .1 .1 .0 ∙ l .inv .1,
       u .kept .1 .1 .1 .1 .0 ∙ l .inv .2,
       lent-moved _ _ _ _ _ _ _ (u .ensures) _ e (l .inv .3),
+      rw (rule-moved _ _ _ _ _ _ _ (u .ensures) _ e (l .inv .3)) (l .inv .4),
     )
 
 status-of-requires : tie.Need-status-of-requires Inv-loop μ-loop
@@ -88,7 +91,7 @@ work-on-spec =
     (tie.spec
     Inv-loop
     μ-loop
-    conway-requires
+    of-requires
     loop-holds
     has-ended-requires
     unit-requires

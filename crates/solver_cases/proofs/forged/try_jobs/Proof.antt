@@ -6,16 +6,19 @@ use Rattle.solver_cases.proofs.forged.try_jobs.Statement.{statement}
 use Rattle.solver_cases.proofs.forged.try_jobs.Tie as tie
 
 abbrev Inv-loop : tie.InvT-loop
-Inv-loop t₀ k₀ t k = k ≤ 6000
+Inv-loop name group t₀ k₀ t k = k ≤ 6000
 
 abbrev μ-loop : tie.MeasureT-loop
-μ-loop t₀ k₀ t k = 6000 - k
+μ-loop name group t₀ k₀ t k = 6000 - k
 
 loop-holds : tie.Need-loop-holds Inv-loop μ-loop
 loop-holds c = search needs
 
-add-try-job : tie.Need-add-try-job Inv-loop μ-loop
-add-try-job c = search needs
+add-seed : tie.Need-add-seed Inv-loop μ-loop
+add-seed c = search needs
+
+of-group-requires : tie.Need-of-group-requires Inv-loop μ-loop
+of-group-requires c κs = search needs
 
 try-job-requires : tie.Need-try-job-requires Inv-loop μ-loop
 try-job-requires c κs = search needs
@@ -42,7 +45,8 @@ try-jobs-spec =
     Inv-loop
     μ-loop
     loop-holds
-    add-try-job
+    add-seed
+    of-group-requires
     try-job-requires
     add-k
     loop-less

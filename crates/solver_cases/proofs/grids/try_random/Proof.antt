@@ -6,10 +6,10 @@ use Rattle.solver_cases.proofs.grids.try_random.Statement.{statement}
 use Rattle.solver_cases.proofs.grids.try_random.Tie as tie
 
 abbrev Inv-loop : tie.InvT-loop
-Inv-loop counts₀ k₀ counts k = k ≤ 3200
+Inv-loop name group counts₀ k₀ counts k = k ≤ 3200
 
 abbrev μ-loop : tie.MeasureT-loop
-μ-loop counts₀ k₀ counts k = 3200 - k
+μ-loop name group counts₀ k₀ counts k = 3200 - k
 
 nothing-requires : tie.Need-nothing-requires Inv-loop μ-loop
 nothing-requires c κs = search needs
@@ -38,6 +38,9 @@ loop-less c = search needs
 loop-again : tie.Need-loop-again Inv-loop μ-loop
 loop-again c = search needs
 
+print-requires : tie.Need-print-requires Inv-loop μ-loop
+print-requires c κs = search needs
+
 returns : tie.Need-returns Inv-loop μ-loop
 returns c = search needs
 
@@ -56,4 +59,5 @@ try-random-spec =
     add-k
     loop-less
     loop-again
+    print-requires
     returns)

@@ -6,10 +6,10 @@ use Rattle.solver_cases.proofs.plain.agree.Statement.{statement}
 use Rattle.solver_cases.proofs.plain.agree.Tie as tie
 
 abbrev Inv-loop : tie.InvT-loop
-Inv-loop w a b c end j₀ j = j ≤ end
+Inv-loop rule w a b c end j₀ j = j ≤ end
 
 abbrev μ-loop : tie.MeasureT-loop
-μ-loop w a b c end j₀ j = end - j
+μ-loop rule w a b c end j₀ j = end - j
 
 wrapping-add-usize-requires : tie.Need-wrapping-add-usize-requires Inv-loop μ-loop
 wrapping-add-usize-requires c κs = search needs

@@ -6,10 +6,10 @@ use Rattle.solver_cases.proofs.plain.best_board.Statement.{statement}
 use Rattle.solver_cases.proofs.plain.best_board.Tie as tie
 
 abbrev Inv-loop : tie.InvT-loop
-Inv-loop s givens end m best₀ first₀ number₀ best first number = number ≤ end
+Inv-loop rule s givens end m best₀ first₀ number₀ best first number = number ≤ end
 
 abbrev μ-loop : tie.MeasureT-loop
-μ-loop s givens end m best₀ first₀ number₀ best first number = end - number
+μ-loop rule s givens end m best₀ first₀ number₀ best first number = end - number
 
 boards-requires : tie.Need-boards-requires Inv-loop μ-loop
 boards-requires c κs = search needs

@@ -6,10 +6,10 @@ use Rattle.solver_cases.proofs.plain.is_still.Statement.{statement}
 use Rattle.solver_cases.proofs.plain.is_still.Tie as tie
 
 abbrev Inv-loop : tie.InvT-loop
-Inv-loop w h number n end rest₀ row₀ below₀ k₀ rest row below k = k ≤ end
+Inv-loop rule w h number n end rest₀ row₀ below₀ k₀ rest row below k = k ≤ end
 
 abbrev μ-loop : tie.MeasureT-loop
-μ-loop w h number n end rest₀ row₀ below₀ k₀ rest row below k = end - k
+μ-loop rule w h number n end rest₀ row₀ below₀ k₀ rest row below k = end - k
 
 rows-requires : tie.Need-rows-requires Inv-loop μ-loop
 rows-requires c κs = search needs

@@ -6,10 +6,10 @@ use Rattle.solver_cases.proofs.unit.best_below.Statement.{statement}
 use Rattle.solver_cases.proofs.unit.best_below.Tie as tie
 
 abbrev Inv-loop : tie.InvT-loop
-Inv-loop w a b k m table end best₀ row₀ c₀ best row c = c ≤ end
+Inv-loop rule w a b k m table end best₀ row₀ c₀ best row c = c ≤ end
 
 abbrev μ-loop : tie.MeasureT-loop
-μ-loop w a b k m table end best₀ row₀ c₀ best row c = end - c
+μ-loop rule w a b k m table end best₀ row₀ c₀ best row c = end - c
 
 rows-requires : tie.Need-rows-requires Inv-loop μ-loop
 rows-requires c κs = search needs
@@ -29,8 +29,8 @@ loop-less c = search needs
 loop-again : tie.Need-loop-again Inv-loop μ-loop
 loop-again c = search needs
 
-sub-t28 : tie.Need-sub-t28 Inv-loop μ-loop
-sub-t28 c = search needs
+sub-t30 : tie.Need-sub-t30 Inv-loop μ-loop
+sub-t30 c = search needs
 
 returns : tie.Need-returns Inv-loop μ-loop
 returns c = search needs
@@ -50,6 +50,6 @@ best-below-spec =
     add-c
     loop-less
     loop-again
-    sub-t28
+    sub-t30
     returns
     returns-2)

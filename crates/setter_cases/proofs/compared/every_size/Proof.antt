@@ -1,15 +1,15 @@
--- `setter_cases::every_size` is safe and ends: the counter rises to its end.
+-- `setter_cases::compared::every_size` is safe and ends: the counter rises to its end.
 -- Assumes nothing.
 use Prim.Native.Nat.{_-_, _≤_}
 use borrow.Author.Needs.{needs}
-use Rattle.setter_cases.proofs.every_size.Statement.{statement}
-use Rattle.setter_cases.proofs.every_size.Tie as tie
+use Rattle.setter_cases.proofs.compared.every_size.Statement.{statement}
+use Rattle.setter_cases.proofs.compared.every_size.Tie as tie
 
 abbrev Inv-loop : tie.InvT-loop
-Inv-loop seed₀ wrong₀ k₀ t8 seed wrong k = k ≤ 6000
+Inv-loop counts seed₀ wrong₀ k₀ t8 seed wrong k = k ≤ 6000
 
 abbrev μ-loop : tie.MeasureT-loop
-μ-loop seed₀ wrong₀ k₀ t8 seed wrong k = 6000 - k
+μ-loop counts seed₀ wrong₀ k₀ t8 seed wrong k = 6000 - k
 
 loop-holds : tie.Need-loop-holds Inv-loop μ-loop
 loop-holds c = search needs

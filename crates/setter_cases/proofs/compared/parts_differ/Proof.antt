@@ -1,4 +1,4 @@
--- `setter_cases::parts_differ` is safe: the parts lent have their lengths.
+-- `setter_cases::compared::parts_differ` is safe: the parts lent have their lengths.
 -- Assumes nothing.
 use mathlib.Core.Path.{sym}
 use Prim.Native.Nat.{_*_, _≤_}
@@ -6,8 +6,8 @@ use native.Mathlib.Nat.{mul-le-mul-right}
 use native.Mathlib.Omega.{arith}
 use lib.Seq.{length-take-le}
 use borrow.Author.Needs.{needs}
-use Rattle.setter_cases.proofs.parts_differ.Statement.{statement}
-use Rattle.setter_cases.proofs.parts_differ.Tie as tie
+use Rattle.setter_cases.proofs.compared.parts_differ.Statement.{statement}
+use Rattle.setter_cases.proofs.compared.parts_differ.Tie as tie
 
 -- the cells of the board
 small : (c : tie.After-slice-known) → let g = c .before .before .args in g .w * g .h ≤ 10 * g .h

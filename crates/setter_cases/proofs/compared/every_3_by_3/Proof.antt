@@ -1,15 +1,18 @@
--- `setter_cases::every_3_by_3` is safe and ends: the number rises to its end.
+-- `setter_cases::compared::every_3_by_3` is safe and ends: the number rises to its end.
 -- Assumes nothing.
 use Prim.Native.Nat.{_-_, _≤_}
 use borrow.Author.Needs.{needs}
-use Rattle.setter_cases.proofs.every_3_by_3.Statement.{statement}
-use Rattle.setter_cases.proofs.every_3_by_3.Tie as tie
+use Rattle.setter_cases.proofs.compared.every_3_by_3.Statement.{statement}
+use Rattle.setter_cases.proofs.compared.every_3_by_3.Tie as tie
 
 abbrev Inv-loop : tie.InvT-loop
-Inv-loop still₀ wrong₀ number₀ t6 t7 still wrong number = number ≤ 512
+Inv-loop name counts rule still₀ wrong₀ number₀ t9 still wrong number = number ≤ 512
 
 abbrev μ-loop : tie.MeasureT-loop
-μ-loop still₀ wrong₀ number₀ t6 t7 still wrong number = 512 - number
+μ-loop name counts rule still₀ wrong₀ number₀ t9 still wrong number = 512 - number
+
+rule-of-requires : tie.Need-rule-of-requires Inv-loop μ-loop
+rule-of-requires c κs = search needs
 
 loop-holds : tie.Need-loop-holds Inv-loop μ-loop
 loop-holds c = search needs
@@ -53,14 +56,11 @@ loop-less c = search needs
 loop-again : tie.Need-loop-again Inv-loop μ-loop
 loop-again c = search needs
 
-slice-aggregate-line : tie.Need-slice-aggregate-line Inv-loop μ-loop
-slice-aggregate-line c = search needs
-
 line-requires : tie.Need-line-requires Inv-loop μ-loop
 line-requires c κs = search needs
 
-slice-aggregate-line-2 : tie.Need-slice-aggregate-line-2 Inv-loop μ-loop
-slice-aggregate-line-2 c = search needs
+slice-aggregate-line : tie.Need-slice-aggregate-line Inv-loop μ-loop
+slice-aggregate-line c = search needs
 
 line-requires-2 : tie.Need-line-requires-2 Inv-loop μ-loop
 line-requires-2 c κs = search needs
@@ -74,6 +74,7 @@ every-3-by-3-spec =
     (tie.spec
     Inv-loop
     μ-loop
+    rule-of-requires
     loop-holds
     slice-aggregate-write-digits
     write-digits-requires
@@ -88,8 +89,7 @@ every-3-by-3-spec =
     add-number
     loop-less
     loop-again
-    slice-aggregate-line
     line-requires
-    slice-aggregate-line-2
+    slice-aggregate-line
     line-requires-2
     returns)
