@@ -4,7 +4,7 @@ use mathlib.Core.Path.{_≡_}
 use mathlib.Core.Logic.{_↔_}
 use mathlib.Core.Bool.{Bool}
 use mathlib.Core.List.{List}
-use Prim.Native.Nat.{ℕ, _*_}
+use Prim.Native.Nat.{ℕ, _*_, _^_}
 use lib.Dec.{eqb, leb}
 use lib.ListN.{length, getD}
 use Rattle.board.specs.Search.{firstNot}
@@ -30,6 +30,14 @@ atMost most bytes place = leb (getD bytes place 0) most
 -- 4, Mark: a given not 0, 1 or 2; 11, Cell: a board byte not 0 or 1; with its first place from 0
 abbrev pub bytesCheck : ℕ → ℕ → List ℕ → Answer
 bytesCheck n most bytes = refuseAt (firstNot (atMost most bytes) (length bytes)) n
+
+-- the entries of a grid's score table: h × 4^w
+unfoldable pub tableSize : ℕ → ℕ → ℕ
+tableSize w h = h * 4 ^ w
+
+-- 6, Short table: fewer entries than that
+abbrev pub tableCheck : ℕ → ℕ → List ℕ → Answer
+tableCheck w h table = refuseUnless (leb (tableSize w h) (length table)) 6
 
 -- 1, 2
 unfoldable pub sizeCheck : ℕ → ℕ → Answer

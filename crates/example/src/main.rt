@@ -1,23 +1,23 @@
 // The calls of a job in a row: open, work, pause, resume, work on. README.md shows it.
-use solver::Checkpoint;
-use solver::Job;
-use solver::Opened;
-use solver::Paused;
-use solver::Resumed;
+use job::Checkpoint;
+use job::Job;
+use job::Opened;
+use job::Paused;
+use job::Resumed;
 use solver::Status;
 
 fn main() {
     let givens = [0u8; 4]; // 2 by 2, every cell free
     let mut table = [7u16; 32]; // 2 × 4^2 entries, with leftovers
     let mut board = [9u8; 4];
-    match solver::open(rule::conway(), 2, 2, &givens) {
+    match job::open(rule::conway(), 2, 2, &givens) {
         Opened::Ready(job) => work_and_pause(job, &givens, &mut table, &mut board),
         Opened::Refused(r) => report::refusal(r),
     }
 }
 
 fn work_and_pause(job: Job, givens: &[u8], table: &mut [u16], board: &mut [u8]) {
-    let worked = job.work(givens, table, board, 9);
+    let worked = solver::work(job, givens, table, board, 9);
     let status = worked.status;
     print_status(status);
     let now = worked.job;
@@ -31,7 +31,7 @@ fn resume_and_work(numbers: Checkpoint, givens: &[u8], table: &mut [u16], board:
     print_numbers(numbers);
     match numbers.resume() {
         Resumed::Ready(job) => {
-            let worked = job.work(givens, table, board, 1000);
+            let worked = solver::work(job, givens, table, board, 1000);
             let status = worked.status;
             print_status(status);
             print_board(board);

@@ -3,7 +3,7 @@
 use mathlib.Core.Path.{refl}
 use Rattle.board.specs.Search.{firstNot, allBelow}
 use Rattle.board.specs.Sums.{total}
-use Rattle.board.specs.Checks.{sizeCheck, cellsCheck, givensCheck}
+use Rattle.board.specs.Checks.{sizeCheck, cellsCheck, givensCheck, tableSize}
 use Rattle.elimination.specs.Candidates.{scan}
 use Rattle.elimination.specs.Kind.{choose, entry}
 use Rattle.rule.specs.Rule.{ruleCheck, gridCheck, nextUnder, conway}
@@ -14,8 +14,9 @@ use Rattle.plaintext.specs.Lines.{linesOf}
 use Rattle.plaintext.specs.Reading as Reading
 use Rattle.score_table.specs.Rows.{markKept, rowKept, cellWorth, rowWorth}
 use Rattle.solver.specs.Rows.{written}
-use Rattle.score_table.specs.ScoreTable.{placeOf, tableSize, unitPlace, unitEntry, rowChoice}
-use Rattle.solver.specs.Jobs.{unitsFit, rowsChosen, rowsFit, checkpointFits, jobFits, workCheck}
+use Rattle.score_table.specs.ScoreTable.{placeOf, unitPlace, unitEntry, rowChoice}
+use Rattle.job.specs.Jobs.{unitsFit, rowsChosen, rowsFit, checkpointFits, jobFits}
+use Rattle.solver.specs.Working.{workCheck}
 use Rattle.solver.specs.Units.{unitOf}
 use Rattle.solver.specs.Calls.{worksOn, workOf}
 use Rattle.known.specs.Known.{solved, Known}

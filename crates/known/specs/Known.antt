@@ -9,8 +9,9 @@ use Rattle.rule.specs.Rule.{conwayRule, conway}
 use Rattle.life.specs.Calls.{judgeRule, still, changes}
 use Rattle.writer.specs.Letters.{LF, bigO}
 use Rattle.plaintext.specs.Reading.{readRule}
-use Rattle.score_table.specs.ScoreTable.{tableSize}
-use Rattle.solver.specs.Jobs.{start, finished, infeasible}
+use Rattle.board.specs.Checks.{tableSize}
+use Rattle.job.specs.Jobs.{start}
+use Rattle.solver.specs.Working.{finished, infeasible}
 use Rattle.solver.specs.Calls.{workOf}
 
 -- what a whole job comes to: its answer, the units done, and the board

@@ -12,15 +12,17 @@ use Rattle.board.proofs.Checks.{marks-pass}
 use Rattle.rule.specs.Rule.{Allowed}
 use Rattle.rule.specs.declared.Rule.{Rule}
 use Rattle.rule.proofs.Rules.{grid-passes}
-use Rattle.score_table.specs.ScoreTable.{tableSize}
-use Rattle.solver.specs.Jobs.{start, openRule, workCheck}
+use Rattle.board.specs.Checks.{tableSize}
+use Rattle.job.specs.Jobs.{start, openRule}
+use Rattle.solver.specs.Working.{workCheck}
 use Rattle.solver.specs.Units.{State, Step, next, spoiled, unitOf}
-use Rattle.solver.specs.Calls.{Opens, onStep, worksOn}
+use Rattle.job.specs.Calls.{Opens}
+use Rattle.solver.specs.Calls.{onStep, worksOn}
 use Rattle.solver.specs.Inner.{Lent}
-use Rattle.solver.specs.declared.Stage.{Stage}
-use Rattle.solver.specs.declared.Job.{Job}
-use Rattle.solver.specs.declared.Opened.{Opened}
-use Rattle.solver.proofs.Fits.{fits-of}
+use Rattle.job.specs.declared.Stage.{Stage}
+use Rattle.job.specs.declared.Job.{Job}
+use Rattle.job.specs.declared.Opened.{Opened}
+use Rattle.job.proofs.Fits.{fits-of}
 use Rattle.solver.proofs.UnitLaws.{unit-fits, unit-lent}
 use Rattle.solver.proofs.Serving.{table-pos}
 use Rattle.runner.specs.Solving.{memoryCheck}

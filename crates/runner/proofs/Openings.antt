@@ -12,10 +12,10 @@ use Rattle.board.proofs.Checks.{marks-of, marks-pass}
 use Rattle.rule.specs.Rule.{Allowed, gridCheck}
 use Rattle.rule.specs.declared.Rule.{Rule}
 use Rattle.rule.proofs.Rules.{grid-allowed, grid-passes}
-use Rattle.solver.specs.Jobs.{start, jobSays, openRule, openedSays}
-use Rattle.solver.specs.Calls.{Opens}
-use Rattle.solver.specs.declared.Job.{Job}
-use Rattle.solver.specs.declared.Opened.{Opened}
+use Rattle.job.specs.Jobs.{start, jobSays, openRule, openedSays}
+use Rattle.job.specs.Calls.{Opens}
+use Rattle.job.specs.declared.Job.{Job}
+use Rattle.job.specs.declared.Opened.{Opened}
 use Rattle.runner.specs.Solving.{memoryCheck, solveCheck, Solves, Ready, Runs}
 use Rattle.runner.specs.declared.Solved.{Solved}
 

@@ -13,14 +13,15 @@ use Rattle.board.proofs.Answers.{refuses-none}
 use Rattle.rule.specs.Rule.{Allowed}
 use Rattle.rule.specs.declared.Rule.{Rule}
 use Rattle.solver.specs.Grid.{score}
-use Rattle.score_table.specs.ScoreTable.{tableSize}
-use Rattle.solver.specs.Jobs.{boardLength, noneLength, start, workCheck, unfinished, finished, infeasible}
+use Rattle.board.specs.Checks.{tableSize}
+use Rattle.job.specs.Jobs.{boardLength, noneLength, start}
+use Rattle.solver.specs.Working.{workCheck, unfinished, finished, infeasible}
 use Rattle.solver.specs.Units.{State}
 use Rattle.solver.specs.Calls.{Result, workOf}
 use Rattle.solver.specs.Inner.{lentState}
 use Rattle.solver.specs.Demand.{Call, work, afterWork, afterCall, run, Each, Fair, counted, allowed, summed, Answers, Filled, Served, Outcome, solved, unsolvable, ThirdDemand}
-use Rattle.solver.specs.declared.Job.{Job}
-use Rattle.solver.specs.declared.Opened.{Opened}
+use Rattle.job.specs.declared.Job.{Job}
+use Rattle.job.specs.declared.Opened.{Opened}
 use Rattle.solver.proofs.CheckLaws.{Checked, work-checked, lent-of}
 use Rattle.solver.proofs.Serving.{table-pos}
 use Rattle.solver.proofs.Third.{third-demand}

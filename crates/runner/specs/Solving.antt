@@ -3,18 +3,16 @@
 use mathlib.Core.Path.{_≡_}
 use mathlib.Core.List.{List}
 use Prim.Native.Nat.{ℕ}
-use lib.Dec.{leb}
-use lib.ListN.{length}
-use Rattle.board.specs.Answers.{Answer, refuses, passed, refusalSays, _then_, refuseUnless}
+use Rattle.board.specs.Answers.{Answer, refuses, passed, refusalSays, _then_}
 use Rattle.board.specs.Boards.{Givens}
-use Rattle.board.specs.Checks.{givensCheck, lengthCheck}
+use Rattle.board.specs.Checks.{givensCheck, lengthCheck, tableSize, tableCheck}
 use Rattle.rule.specs.Rule.{Allowed, gridCheck}
 use Rattle.rule.specs.declared.Rule.{Rule}
 use Rattle.solver.specs.Grid.{Solution, Optimal, score}
-use Rattle.score_table.specs.ScoreTable.{tableSize}
-use Rattle.solver.specs.Jobs.{start, finished, infeasible}
+use Rattle.job.specs.Jobs.{start}
+use Rattle.solver.specs.Working.{finished, infeasible}
 use Rattle.solver.specs.Demand.{Filled}
-use Rattle.solver.specs.declared.Job.{Job}
+use Rattle.job.specs.declared.Job.{Job}
 use Rattle.runner.specs.declared.Solved.{Solved}
 
 -- the paper's number and values of each answer: those of a job that ended
@@ -25,7 +23,7 @@ solvedSays (Solved.Refused r) = refusalSays r
 
 -- its checks: 1, 2, 13, 3, 4 as opening, 5, 6 as working
 unfoldable pub memoryCheck : ℕ → ℕ → List ℕ → List ℕ → Answer
-memoryCheck w h table board = lengthCheck 5 w h board then refuseUnless (leb (tableSize w h) (length table)) 6
+memoryCheck w h table board = lengthCheck 5 w h board then tableCheck w h table
 
 unfoldable pub solveCheck : Rule → ℕ → ℕ → List ℕ → List ℕ → List ℕ → Answer
 solveCheck rule w h givens table board = gridCheck rule w h then givensCheck w h givens then memoryCheck w h table board

@@ -1,8 +1,8 @@
 // Runs a job to its end in one call, for callers that don't pause.
 use board::Refusal;
+use job::Job;
+use job::Opened;
 use rule::Rule;
-use solver::Job;
-use solver::Opened;
 use solver::Status;
 ghost use Rattle.runner.specs.Solving.{Solves, Runs, Ready};
 
@@ -28,7 +28,7 @@ pub fn solve(
 ) -> Solved
     ensures { λ r. ⌜ Solves rule w h (now (givens .entry)) (now (table .entry)) (now (board .entry)) r (now (table .exit)) (now (board .exit)) ⌝ }
 {
-    match solver::open(rule, w, h, givens) {
+    match job::open(rule, w, h, givens) {
         Opened::Refused(r) => Solved::Refused(r),
         Opened::Ready(job) => run(job, givens, table, board),
     }
@@ -41,7 +41,7 @@ fn run(start: Job, givens: &[u8], table: &mut [u16], board: &mut [u8]) -> Solved
 {
     let mut job = start;
     loop {
-        let worked = job.work(givens, table, board, ALLOWANCE);
+        let worked = solver::work(job, givens, table, board, ALLOWANCE);
         job = worked.job;
         let status = worked.status;
         match status {

@@ -11,7 +11,8 @@ use lib.ListN.{length, set}
 use Rattle.board.proofs.Tests.{and-left, and-right}
 use Rattle.elimination.specs.Candidates.{Choice, nothing, chosen}
 use Rattle.score_table.specs.Rows.{rowWorth}
-use Rattle.score_table.specs.ScoreTable.{tableSize, unitPlace, unitEntry, rowChoice}
+use Rattle.board.specs.Checks.{tableSize}
+use Rattle.score_table.specs.ScoreTable.{unitPlace, unitEntry, rowChoice}
 use Rattle.score_table.specs.Inner.{Memory}
 use Rattle.score_table.specs.Calls.{lentFits, fillWrites, rowPicked, Picks}
 use Rattle.score_table.specs.declared.Picked.{Picked}

@@ -13,10 +13,11 @@ use Rattle.elimination.specs.Kind.{offerIf, choose, entry, worthOf}
 use Rattle.elimination.proofs.Kind.{entry-last, entry-more}
 use Rattle.life.specs.Rows.{agree}
 use Rattle.score_table.specs.Rows.{rowKept}
-use Rattle.score_table.specs.ScoreTable.{kindBy, kindOf, placeOf, readsFrom, readsOf, tableSize, unitPlace, unitEntry, rowChoice}
+use Rattle.score_table.specs.ScoreTable.{kindBy, kindOf, placeOf, readsFrom, readsOf, unitPlace, unitEntry, rowChoice}
+use Rattle.board.specs.Checks.{tableSize}
 use Rattle.score_table.specs.Inner.{choiceOf, Found}
 use Rattle.score_table.specs.declared.best.Best.{Best}
-use Rattle.score_table.proofs.Powers.{four-two, four-pos}
+use Rattle.board.proofs.Powers.{four-two, four-pos}
 use Rattle.score_table.proofs.Places.{unit-place, unit-place-lt}
 
 -- ---- a row's givens and its layer

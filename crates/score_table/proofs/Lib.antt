@@ -1,5 +1,4 @@
 -- The laws of this crate that belong to no one function. Each file builds on those above it.
-pub mod Powers
 pub mod Marks
 pub mod Columns
 pub mod Skipping

@@ -6,8 +6,9 @@ use native.Mathlib.Nat.{div-add-mod'}
 use native.Mathlib.Omega.{arith}
 use Rattle.elimination.specs.Filling as Filling
 use Rattle.elimination.proofs.Filling.{place-digits, place-lt}
-use Rattle.score_table.specs.ScoreTable.{tableSize, placeOf, unitPlace}
-use Rattle.score_table.proofs.Powers.{four-two}
+use Rattle.board.specs.Checks.{tableSize}
+use Rattle.score_table.specs.ScoreTable.{placeOf, unitPlace}
+use Rattle.board.proofs.Powers.{four-two}
 
 pub table-four : (w h : ℕ) → tableSize w h ≡ h * (2 ^ w * 2 ^ w)
 unfolding tableSize

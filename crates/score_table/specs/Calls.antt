@@ -8,7 +8,8 @@ use lib.Dec.{eqb, leb, ltb}
 use lib.ListN.{length, set}
 use Rattle.elimination.specs.Candidates.{Choice, nothing, chosen}
 use Rattle.score_table.specs.Rows.{rowWorth}
-use Rattle.score_table.specs.ScoreTable.{tableSize, unitPlace, unitEntry, rowChoice}
+use Rattle.board.specs.Checks.{tableSize}
+use Rattle.score_table.specs.ScoreTable.{unitPlace, unitEntry, rowChoice}
 use Rattle.score_table.specs.declared.Picked.{Picked}
 
 -- the givens and the table are those of a grid of at most 10 by 60 cells

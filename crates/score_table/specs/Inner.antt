@@ -5,7 +5,7 @@ use mathlib.Core.List.{List}
 use Prim.Native.Nat.{ℕ, _+_, _*_, _-_, _/_, _^_, _≤_, _<_}
 use lib.ListN.{length}
 use Rattle.elimination.specs.Candidates.{Choice, nothing, chosen}
-use Rattle.score_table.specs.ScoreTable.{tableSize}
+use Rattle.board.specs.Checks.{tableSize}
 use Rattle.score_table.specs.declared.best.Best.{Best}
 use Rattle.score_table.specs.declared.best.Best.the-variants.{Nothing, Row}
 

@@ -36,10 +36,6 @@ abbrev pub kindOf : (ℕ → ℕ) → ℕ → ℕ → List ℕ → Kind ℕ
 kindOf next w h givens = kindBy next w (λ k. (h - suc k) * w) givens
 
 -- ---- where entries lie
--- the entries of the table, which are the units of filling: h × 4^w
-unfoldable pub tableSize : ℕ → ℕ → ℕ
-tableSize w h = h * 4 ^ w
-
 -- the place of entry (i, a, b), counted from 0
 unfoldable pub placeOf : ℕ → ℕ → ℕ → ℕ → ℕ
 placeOf w i a b = (i - 1) * 4 ^ w + a * 2 ^ w + b

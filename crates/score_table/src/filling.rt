@@ -6,7 +6,8 @@ ghost use mathlib.Core.Path.{_≡_};
 ghost use Prim.Native.Nat.{_<_, _≤_};
 ghost use lib.ListN.{set};
 ghost use Rattle.rule.specs.Rule.{entryOf};
-ghost use Rattle.score_table.specs.ScoreTable.{tableSize, unitPlace, unitEntry};
+ghost use Rattle.board.specs.Checks.{tableSize};
+ghost use Rattle.score_table.specs.ScoreTable.{unitPlace, unitEntry};
 ghost use Rattle.score_table.specs.Inner.{Memory, layerSize};
 
 // The entries of a layer, 4^w.

@@ -10,12 +10,11 @@ use lib.ListN.{length}
 use Rattle.board.specs.Answers.{Answer, gives, refuses, passed, _then_, refuseUnless}
 use Rattle.board.specs.Boards.{Board}
 use Rattle.board.specs.declared.Refusal.{Refusal}
-use Rattle.board.specs.Checks.{givensCheck, lengthCheck}
+use Rattle.board.specs.Checks.{givensCheck, lengthCheck, tableSize, tableCheck}
 use Rattle.board.proofs.Answers.{refuses-none, then-gives, unless-gives}
 use Rattle.rule.specs.Rule.{conwayRule, gridCheck}
 use Rattle.writer.specs.Writing.{textLength, textOver}
-use Rattle.score_table.specs.ScoreTable.{tableSize}
-use Rattle.solver.specs.Jobs.{finished, infeasible}
+use Rattle.solver.specs.Working.{finished, infeasible}
 use Rattle.runner.specs.Solving.{memoryCheck, solveCheck, solvedSays, Ends, best, none, Comes, Solves}
 use Rattle.runner.specs.declared.Solved as Solved
 use Rattle.setter.specs.Texts.{givenOf, SolvesCells}
@@ -30,7 +29,7 @@ unfolding solveCheck memoryCheck
 check-passed w h g t β e =
     let a = then-gives (gridCheck conwayRule w h) (givensCheck w h g then memoryCheck w h t β) e in
     let b = then-gives (givensCheck w h g) (memoryCheck w h t β) (a .1) in
-    let c = then-gives (lengthCheck 5 w h β) (refuseUnless (leb (tableSize w h) (length t)) 6) (b .1) in
+    let c = then-gives (lengthCheck 5 w h β) (tableCheck w h t) (b .1) in
     e ∙ unless-passed (leb (tableSize w h) (length t)) 6 (c .1)
 
 -- ---- with a score, the board is one

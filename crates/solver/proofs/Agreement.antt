@@ -14,7 +14,8 @@ use Rattle.elimination.specs.Sums.{sumKind}
 use Rattle.rule.specs.Rule.{Holds, entryOf}
 use Rattle.life.specs.Plane.{nine}
 use Rattle.life.specs.Rows.{cellOf, becomes, stepsTo, agree}
-use Rattle.score_table.specs.ScoreTable.{rules, kindOf, readsOf, tableSize, rowsAfter, rowA, rowB, unitPlace, unitEntry, rowChoice}
+use Rattle.score_table.specs.ScoreTable.{rules, kindOf, readsOf, rowsAfter, rowA, rowB, unitPlace, unitEntry, rowChoice}
+use Rattle.board.specs.Checks.{tableSize}
 use Rattle.score_table.specs.Inner.{Memory}
 use Rattle.score_table.specs.Calls.{fillWrites, rowPicked}
 use Rattle.score_table.proofs.Columns.{cell-small}

@@ -11,13 +11,13 @@ use lib.Dec.{leb, eqb}
 use lib.ListN.{length}
 use Rattle.board.specs.Search.{firstNot}
 use Rattle.board.specs.Answers.{Answer, gives, refuses, _then_, refuseUnless, refuseAt}
-use Rattle.board.specs.Checks.{givensCheck, lengthCheck, bytesCheck, atMost}
-use Rattle.board.proofs.Answers.{then-gives, unless-gives}
+use Rattle.board.specs.Checks.{givensCheck, lengthCheck, bytesCheck, atMost, tableSize, tableCheck}
+use Rattle.board.proofs.Answers.{refuses-none, then-gives, unless-gives}
 use Rattle.board.proofs.Checks.{marks-of}
-use Rattle.score_table.specs.ScoreTable.{tableSize}
-use Rattle.solver.specs.Jobs.{jobFits, workCheck}
+use Rattle.job.specs.Jobs.{jobFits, pauseRule}
+use Rattle.solver.specs.Working.{workCheck}
 use Rattle.solver.specs.Inner.{Lent}
-use Rattle.solver.specs.declared.Job.{Job}
+use Rattle.job.specs.declared.Job.{Job}
 
 -- nothing, or a refusal other than 9
 abbrev pub Checked : Answer → Type 0
@@ -36,9 +36,18 @@ checked-then : (a b : Answer) → Checked a → Checked b → Checked (a then b)
 checked-then (gives values) b p q = q
 checked-then (refuses n values) b p q = p
 
+-- a job that pausing turns away is turned away here, with the same refusal
+pub pause-refused : (j : Job) (g t β : List ℕ) {n : ℕ} {us : List ℕ} → refuses n us ≡ pauseRule j → refuses n us ≡ workCheck j g t β
+unfolding pauseRule workCheck
+pause-refused j g t β {n} {us} e = go (jobFits j) refl
+  where
+    go : (b : Bool) → jobFits j ≡ b → refuses n us ≡ workCheck j g t β
+    go true f = absurd (refuses-none (rw f at e))
+    go false f = rw f (rw f at e)
+
 module _ (j : Job) (g t β : List ℕ) where
   abbrev entriesCheck : Answer
-  entriesCheck = refuseUnless (leb (tableSize (j .width) (j .height)) (length t)) 6
+  entriesCheck = tableCheck (j .width) (j .height) t
 
   abbrev cellsCheck : Answer
   cellsCheck = lengthCheck 5 (j .width) (j .height) β

@@ -27,7 +27,7 @@ use Rattle.solver.specs.Grid.{KeepsGivens, Solution, score}
 use Rattle.score_table.specs.Rows.{rowWorth, markKept, rowKept}
 use Rattle.score_table.specs.ScoreTable.{rules, kindOf}
 use Rattle.solver.specs.Theorems.{nextRows, allRows}
-use Rattle.solver.proofs.Fits.{and-true}
+use Rattle.job.proofs.Fits.{and-true}
 use Rattle.score_table.proofs.Marks.{MarkIs, isDead, isLive, isFree, mark-is, row-worth-le}
 use Rattle.solver.proofs.RowLaws.{row-none, row-past, row-lt, row-digit, Place, place, score-more, score-none}
 

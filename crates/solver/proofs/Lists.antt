@@ -15,15 +15,16 @@ use Rattle.rule.specs.declared.Rule.{Rule}
 use Rattle.elimination.specs.Machine.{advance, Lasts}
 use Rattle.elimination.specs.Job.{ended, done, endMark}
 use Rattle.elimination.proofs.Machine.{advance-suc, after-units}
-use Rattle.score_table.specs.ScoreTable.{tableSize}
-use Rattle.solver.specs.Jobs.{jobFits, checkpointFits, checkpointSays, jobOf, pauseRule, resumeRule, workCheck, stageSays, unfinished}
+use Rattle.board.specs.Checks.{tableSize}
+use Rattle.job.specs.Jobs.{jobFits, checkpointFits, checkpointSays, jobOf, pauseRule, resumeRule}
+use Rattle.solver.specs.Working.{workCheck, stageSays, unfinished}
 use Rattle.solver.specs.Units.{State, Step, next, spoiled, unitOf}
 use Rattle.solver.specs.Calls.{Result, onStep, worksOn, workBy, workOf}
 use Rattle.solver.specs.Demand.{Call, work, pause, resume, afterWork, afterResume, afterCall, run, Each, Fair, counted, allowed, summed, WorkAnswers, ResumeAnswers, Answers}
-use Rattle.solver.specs.declared.Stage.{Stage}
-use Rattle.solver.specs.declared.Job.{Job}
-use Rattle.solver.specs.declared.Checkpoint.{Checkpoint}
-use Rattle.solver.proofs.Fits.{Frame, pausable, paused-numbers, job-back}
+use Rattle.job.specs.declared.Stage.{Stage}
+use Rattle.job.specs.declared.Job.{Job}
+use Rattle.job.specs.declared.Checkpoint.{Checkpoint}
+use Rattle.job.proofs.Fits.{Frame, pausable, paused-numbers, job-back}
 use Rattle.solver.proofs.CheckLaws.{Checked, work-checked, lent-of}
 use Rattle.solver.proofs.Machine.{markIn, view, machine, Here, Steps, unit-law, here-fits}
 use Rattle.solver.proofs.Memory.{Run}

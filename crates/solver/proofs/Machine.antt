@@ -25,12 +25,14 @@ use Rattle.rule.specs.Rule.{nextUnder}
 use Rattle.rule.specs.declared.Rule.{Rule}
 use Rattle.score_table.specs.Rows.{rowWorth}
 use Rattle.solver.specs.Rows.{written}
-use Rattle.score_table.specs.ScoreTable.{tableSize, unitPlace, unitEntry, rowChoice}
-use Rattle.solver.specs.Jobs.{aboveOf, lastOf, liveOf, jobFits}
-use Rattle.solver.specs.Units.{State, Step, next, spoiled, chosenTo, chooseStep, unitOf}
-use Rattle.solver.specs.declared.Stage.{Stage}
-use Rattle.solver.specs.declared.Job.{Job}
-use Rattle.solver.proofs.Fits.{Frame, RowsFit, Choosing, Fits, jobAt, fits-of}
+use Rattle.board.specs.Checks.{tableSize}
+use Rattle.score_table.specs.ScoreTable.{unitPlace, unitEntry, rowChoice}
+use Rattle.job.specs.Jobs.{aboveOf, lastOf, liveOf, jobFits, chosenTo}
+use Rattle.solver.specs.Units.{State, Step, next, spoiled, chooseStep, unitOf}
+use Rattle.job.specs.declared.Stage.{Stage}
+use Rattle.job.specs.declared.Job.{Job}
+use Rattle.job.proofs.Fits.{Frame, Choosing, Fits, jobAt, fits-of}
+use Rattle.job.proofs.Next.{entry-fits, row-fits, none-fits}
 use Rattle.score_table.proofs.Marks.{row-worth-le}
 use Rattle.solver.proofs.Endings.{kind}
 use Rattle.solver.proofs.Optimum.{putRow}
@@ -79,17 +81,6 @@ module _ (rule : Rule) (w h : ℕ) (g : List ℕ) where
 
 module _ {rule : Rule} {w h : ℕ} (z : Frame rule w h) (g : List ℕ) where
   -- ---- an entry
-  fill-fits : (u : ℕ) → u < tableSize w h → (b : Bool) → ltb (u + 1) (tableSize w h) ≡ b → Fits w h (u + 1) (cond b Stage.Filling (Stage.Choosing 0 0 0))
-  fill-fits u l true e = ltb-true (u + 1) (tableSize w h) e
-  fill-fits u l false e =
-      let le : tableSize w h ≤ u + 1 = ltb-false (u + 1) (tableSize w h) e in record {
-        over = pow-pos w;
-        below = pow-pos w;
-        from = le;
-        until = omega (arith, z .size .some-row);
-        rows = record { few = omega arith; none = λ q. refl; one = λ q. refl };
-      }
-
   fill-view : (u : ℕ) (t β : List ℕ) (b : Bool) → view (at rule w h u (cond b Stage.Filling (Stage.Choosing 0 0 0)) t β) ≡ view (at rule w h u Stage.Filling t β)
   fill-view u t β true = refl
   fill-view u t β false = refl
@@ -98,7 +89,7 @@ module _ {rule : Rule} {w h : ℕ} (z : Frame rule w h) (g : List ℕ) where
   unfolding unitOf unit fillEntry Filling.place
   fill-law u t β l =
       let lq : u < h * (2 ^ w * 2 ^ w) = rw (table-four w h) at l in (
-        record { ruled = refl; wide = refl; tall = refl; stage = fill-fits u l (ltb (u + 1) (tableSize w h)) refl },
+        record { ruled = refl; wide = refl; tall = refl; stage = entry-fits z u l },
         fill-view (u + 1) (set t (unitPlace w h u) (unitEntry (nextUnder rule) w h g t u)) β (ltb (u + 1) (tableSize w h))
             ∙ rw (plan-fill h (2 ^ w * 2 ^ w) u lq, add-one u, entry-same rule w h g t u, place-same w h u),
       )
@@ -111,23 +102,6 @@ module _ {rule : Rule} {w h : ℕ} (z : Frame rule w h) (g : List ℕ) where
     -- what row k + 1 earns as c
     abbrev worth : ℕ → ℕ → ℕ
     worth k c = rowWorth w g (k * w) c
-
-    row-fits : (c : ℕ) → c < 2 ^ w → (b : Bool) → ltb (r + 1) h ≡ b
-        → Fits w h (u + 1) (cond b (Stage.Choosing last c (soFar + worth r c)) (Stage.Finished last c (soFar + worth r c)))
-    row-fits c l b e = go b e
-      where
-        rows : RowsFit w (suc r) last c (soFar + worth r c)
-        rows = record { few = omega (arith, F .rows .few, row-worth-le w g (r * w) c); none = λ q. absurd (omega arith); one = λ q. F .rows .none (omega arith) }
-
-        go : (b : Bool) → ltb (r + 1) h ≡ b → Fits w h (u + 1) (cond b (Stage.Choosing last c (soFar + worth r c)) (Stage.Finished last c (soFar + worth r c)))
-        go true e =
-            let lt = ltb-true (r + 1) h e in
-            let k : u + 1 - tableSize w h ≡ suc (u - tableSize w h) = omega (arith, F .from) in
-            record { over = F .below; below = l; from = omega (arith, F .from); until = omega (arith, F .from); rows = rw k rows }
-        go false e =
-            let le = ltb-false (r + 1) h e in
-            let k : suc (u - tableSize w h) ≡ h = omega (arith, F .from, F .until) in
-            record { over = F .below; below = l; whole = omega (arith, F .from); rows = rw k at rows }
 
     row-view : (last c n u : ℕ) (t β : List ℕ) (b : Bool)
         → view (at rule w h u (cond b (Stage.Choosing last c n) (Stage.Finished last c n)) t β)
@@ -157,14 +131,14 @@ module _ {rule : Rule} {w h : ℕ} (z : Frame rule w h) (g : List ℕ) where
       choose-law k e (chosen c n) l m =
           let q : k ≡ h - suc (h - suc k) = omega (arith, F .from, F .until) in
           let f : worth k c ≡ worth (h - suc (h - suc k)) c = ap (λ (x : ℕ). worth x c) q in (
-            record { ruled = refl; wide = refl; tall = refl; stage = subst (λ (x : ℕ). Fits w h (u + 1) (chosenTo h (x + 1) last c (soFar + worth x c))) e (row-fits c l (ltb (r + 1) h) refl) },
+            record { ruled = refl; wide = refl; tall = refl; stage = row-fits z F k e c (worth k c) l (row-worth-le w g (k * w) c) },
             row-view last c (soFar + worth k c) (u + 1) t (written w c β (k * w) w) (ltb (k + 1) h) ∙ rw (add-one u, add-one k, add-comm soFar (worth k c), f) (sym m),
           )
       choose-law zero e nothing l m =
           let none : last ≡ 0 = F .rows .none e in
           let one : above ≡ 0 = F .rows .one (omega arith) in
           let few : soFar ≡ 0 = omega (arith, rw e at (F .rows .few)) in
-          (record { ruled = refl; wide = refl; tall = refl; stage = omega (arith, F .from) }, rw (add-one u) (sym (m ∙ none-view t β one none few)))
+          (record { ruled = refl; wide = refl; tall = refl; stage = none-fits z F e }, rw (add-one u) (sym (m ∙ none-view t β one none few)))
       choose-law (suc k) e nothing l m = rw (ne-eqb (suc k) 0 (omega arith)) (m, refl)
 
       row-law : Steps rule w h g (unitOf g here) here

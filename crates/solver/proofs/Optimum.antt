@@ -25,7 +25,7 @@ use Rattle.life.specs.Rows.{rowOf}
 use Rattle.solver.specs.Grid.{Solution, score, Precedes, Optimal}
 use Rattle.solver.specs.Rows.{written}
 use Rattle.solver.specs.Theorems.{nextRows, allRows}
-use Rattle.solver.proofs.Fits.{Frame}
+use Rattle.job.proofs.Fits.{Frame}
 use Rattle.solver.proofs.Writing.{written-length, written-before, written-after, written-cell, reads-back}
 use Rattle.solver.proofs.RowLaws.{same-number, row-inside, row-none, same-rows}
 use Rattle.solver.proofs.Endings.{kind, solution-ends, ends-solution, total-score}

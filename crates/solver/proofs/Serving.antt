@@ -26,14 +26,15 @@ use Rattle.elimination.proofs.Numbers.{lt-or-ge}
 use Rattle.elimination.proofs.Machine.{advance-zero, after-units}
 use Rattle.elimination.proofs.FillThenChoose.{schedule-lengths}
 use Rattle.solver.specs.Grid.{score}
-use Rattle.score_table.specs.ScoreTable.{tableSize}
-use Rattle.solver.specs.Jobs.{boardLength, noneLength, liveOf, stageSays}
-use Rattle.solver.specs.Jobs as Jobs
+use Rattle.board.specs.Checks.{tableSize}
+use Rattle.job.specs.Jobs.{boardLength, noneLength, liveOf}
+use Rattle.solver.specs.Working.{stageSays}
+use Rattle.solver.specs.Working as Working
 use Rattle.solver.specs.Units.{State}
 use Rattle.solver.specs.Demand.{Call, run, summed, Each, Fair, Written, chosenIn, chosenRows, idleUnits, Progress, Served}
-use Rattle.solver.specs.declared.Stage.{Stage}
-use Rattle.score_table.proofs.Powers.{four-two}
-use Rattle.solver.proofs.Fits.{Frame, Fits, pausable}
+use Rattle.job.specs.declared.Stage.{Stage}
+use Rattle.board.proofs.Powers.{four-two}
+use Rattle.job.proofs.Fits.{Frame, Fits, pausable}
 use Rattle.solver.proofs.Endings.{kind}
 use Rattle.solver.proofs.Optimum.{boardOf, into-same, is-total}
 use Rattle.score_table.proofs.Places.{table-four}
@@ -58,13 +59,13 @@ abbrev soFarOf : Run → ℕ
 soFarOf s = s .soFar
 
 -- ---- stages
-finished-says : (s : Stage) → markIn s ≡ finished → stageSays s ≡ Jobs.finished (liveOf s)
+finished-says : (s : Stage) → markIn s ≡ finished → stageSays s ≡ Working.finished (liveOf s)
 finished-says Stage.Filling e = absurd (true≢false (sym (ap endMark e)))
 finished-says (Stage.Choosing a l n) e = absurd (true≢false (sym (ap endMark e)))
 finished-says (Stage.Finished a l n) e = refl
 finished-says Stage.Infeasible e = absurd (let z : _≡_ {A = ℕ} 0 1 = cc in omega arith)
 
-infeasible-says : (s : Stage) → markIn s ≡ infeasible → stageSays s ≡ Jobs.infeasible
+infeasible-says : (s : Stage) → markIn s ≡ infeasible → stageSays s ≡ Working.infeasible
 infeasible-says Stage.Filling e = absurd (true≢false (sym (ap endMark e)))
 infeasible-says (Stage.Choosing a l n) e = absurd (true≢false (sym (ap endMark e)))
 infeasible-says (Stage.Finished a l n) e = absurd (let z : _≡_ {A = ℕ} 0 1 = cc in omega arith)
@@ -161,10 +162,10 @@ module _ {rule : Rule} {w h : ℕ} (z : Frame rule w h) (g t β : List ℕ) (siz
     ends-board : after rule w h g t β (boardLength w h) .board ≡ best
     ends-board = ap boardIn ends-at ∙ into-same z g rows (T .lawful) β size
 
-    board-says : (s : State) → view s ≡ after rule w h g t β (boardLength w h) → stageSays (s .job .stage) ≡ Jobs.finished (score w h g best)
+    board-says : (s : State) → view s ≡ after rule w h g t β (boardLength w h) → stageSays (s .job .stage) ≡ Working.finished (score w h g best)
     board-says s e =
         finished-says (s .job .stage) (ap markOf (e ∙ ends-at))
-        ∙ ap Jobs.finished (ap soFarOf (e ∙ ends-at) ∙ sym (is-total z g (rightEntry (kind rule w h g) h 0 0) rows T))
+        ∙ ap Working.finished (ap soFarOf (e ∙ ends-at) ∙ sym (is-total z g (rightEntry (kind rule w h g) h 0 0) rows T))
 
     never-none : (m : ℕ) → m ≤ boardLength w h → (s : State) → view s ≡ after rule w h g t β m → markIn (s .job .stage) ≡ infeasible → ⊥
     never-none m l s e n =
@@ -185,8 +186,8 @@ module _ {rule : Rule} {w h : ℕ} (z : Frame rule w h) (g t β : List ℕ) (siz
           rest = board-rest rule w h g t β (boardLength w h) board-lasts m l;
         })
 
-    pub board-served : (cs : List Call) → Each (Fair g) cs s₀ → Served rule w h g (boardLength w h) (Jobs.finished (score w h g best)) best cs s₀
-    board-served = served (boardLength w h) (Jobs.finished (score w h g best)) best board-lasts board-says board-written ends-board
+    pub board-served : (cs : List Call) → Each (Fair g) cs s₀ → Served rule w h g (boardLength w h) (Working.finished (score w h g best)) best cs s₀
+    board-served = served (boardLength w h) (Working.finished (score w h g best)) best board-lasts board-says board-written ends-board
 
   -- there is none
   module _ (comes : ComesTo (machine rule w h g) (first rule w h g t β) (noneEnd (setup rule w h g) (course w h) t β) (suc (course w h .work 0))) where
@@ -205,7 +206,7 @@ module _ {rule : Rule} {w h : ℕ} (z : Frame rule w h) (g t β : List ℕ) (siz
         ⊎-elim (λ (q : m < noneLength w h). ap boardIn (filling rule w h g t β m (omega arith)))
         (λ (q : noneLength w h ≤ m). let f : m ≡ noneLength w h = omega arith in ap boardIn (ap (after rule w h g t β) f ∙ none-at)) (lt-or-ge m (noneLength w h))
 
-    pub none-served : (cs : List Call) → Each (Fair g) cs s₀ → Served rule w h g (noneLength w h) Jobs.infeasible β cs s₀
+    pub none-served : (cs : List Call) → Each (Fair g) cs s₀ → Served rule w h g (noneLength w h) Working.infeasible β cs s₀
     none-served =
-        served (noneLength w h) Jobs.infeasible β none-lasts (λ s e. infeasible-says (s .job .stage) (ap markOf (e ∙ none-at)))
+        served (noneLength w h) Working.infeasible β none-lasts (λ s e. infeasible-says (s .job .stage) (ap markOf (e ∙ none-at)))
         (λ m l s H e. unwritten w (chosenRows w h (s .job)) β (s .board) (ap boardIn e ∙ none-board m l)) (none-board (noneLength w h) (omega arith))

@@ -18,9 +18,10 @@ use Rattle.elimination.proofs.Kind.{choose-scan}
 use Rattle.elimination.proofs.Filling.{place-digits, place-lt, right-at-unit-entry}
 use Rattle.rule.specs.Rule.{nextUnder}
 use Rattle.rule.specs.declared.Rule.{Rule}
-use Rattle.score_table.specs.ScoreTable.{placeOf, readsOf, tableSize, unitPlace, unitEntry, rowChoice}
+use Rattle.score_table.specs.ScoreTable.{placeOf, readsOf, unitPlace, unitEntry, rowChoice}
+use Rattle.board.specs.Checks.{tableSize}
 use Rattle.solver.specs.Demand.{rightUnit}
-use Rattle.score_table.proofs.Powers.{four-two}
+use Rattle.board.proofs.Powers.{four-two}
 use Rattle.solver.proofs.Endings.{kind, kind-laws}
 
 -- the entries of a layer, as row elimination counts them

@@ -24,7 +24,7 @@ use Rattle.score_table.specs.ScoreTable.{readsOf}
 use Rattle.solver.specs.Theorems as Theorems
 use Rattle.solver.specs.Theorems.{allRows, EndingsAreSolutions, BestOrNone, best, none, ChoiceIsOptimal, rowsWorth, Greatest, greatest, RightLayer, EntriesRight, givenLive, GivensApart, SameBest}
 use Rattle.score_table.proofs.Marks.{MarkIs, isDead, isLive, isFree, mark-is, worth-dead, worth-live, worth-free}
-use Rattle.solver.proofs.Fits.{Frame}
+use Rattle.job.proofs.Fits.{Frame}
 use Rattle.solver.proofs.Endings.{kind, kind-laws, solution-ends, ends-solution}
 use Rattle.solver.proofs.Optimum.{boardOf, is-rows, is-score, optimal}
 

@@ -11,7 +11,7 @@ use lib.Dec.{leb, eqb}
 use lib.Pow.{pow-pos}
 use lib.ListN.{length}
 use Rattle.board.specs.Answers.{Answer, gives, _then_}
-use Rattle.board.specs.Checks.{givensCheck}
+use Rattle.board.specs.Checks.{givensCheck, tableSize}
 use Rattle.board.proofs.Answers.{then-gives}
 use Rattle.rule.specs.Rule.{gridCheck}
 use Rattle.rule.specs.declared.Rule.{Rule}
@@ -20,15 +20,14 @@ use Rattle.elimination.specs.Kind.{rightEntry, rightRows}
 use Rattle.elimination.specs.Completion.{Completion, toBoard, toNone}
 use Rattle.elimination.proofs.FillThenChoose.{fill-then-choose-completes}
 use Rattle.solver.specs.Grid.{score}
-use Rattle.score_table.specs.ScoreTable.{tableSize}
-use Rattle.solver.specs.Jobs.{boardLength, noneLength, start, jobSays, openRule, openedSays, jobFits}
-use Rattle.solver.specs.Jobs as Jobs
+use Rattle.job.specs.Jobs.{boardLength, noneLength, start, jobSays, openRule, openedSays, jobFits}
+use Rattle.solver.specs.Working as Working
 use Rattle.solver.specs.Units.{State}
 use Rattle.solver.specs.Demand.{Call, Each, Fair, Served, Outcome, solved, unsolvable, ThirdDemand}
 use Rattle.solver.specs.Theorems.{allRows, BestOrNone, best, none}
-use Rattle.solver.specs.declared.Stage.{Stage}
-use Rattle.solver.specs.declared.Job.{Job}
-use Rattle.solver.proofs.Fits.{Frame, fits-of, pausable}
+use Rattle.job.specs.declared.Stage.{Stage}
+use Rattle.job.specs.declared.Job.{Job}
+use Rattle.job.proofs.Fits.{Frame, fits-of, pausable}
 use Rattle.solver.proofs.Endings.{kind, kind-laws, solution-ends}
 use Rattle.solver.proofs.Optimum.{putRow, boardOf, optimal}
 use Rattle.score_table.proofs.Places.{table-four}
@@ -84,8 +83,8 @@ module _ {rule : Rule} {w h : ℕ} (z : Frame rule w h) (g t β : List ℕ) (shu
       long = omega (arith, table-pos (z .size))
 
       go : BestOrNone rule w h g → Outcome rule w h g cs (opened rule w h t β)
-      go (best board O rows is) = solved board O (idle-served (boardLength w h) (Jobs.finished (score w h g board)) board long cs f)
-      go (none n e) = unsolvable n (idle-served (noneLength w h) Jobs.infeasible β (omega arith) cs f)
+      go (best board O rows is) = solved board O (idle-served (boardLength w h) (Working.finished (score w h g board)) board long cs f)
+      go (none n e) = unsolvable n (idle-served (noneLength w h) Working.infeasible β (omega arith) cs f)
 
 -- ---- the theorem
 outcome : {rule : Rule} {w h : ℕ} → Frame rule w h → (g t β : List ℕ) (cs : List Call) → Each (Fair g) cs (opened rule w h t β) → Outcome rule w h g cs (opened rule w h t β)

@@ -12,14 +12,15 @@ use lib.ListN.{length, length-set}
 use Rattle.elimination.specs.Candidates.{Choice, nothing, chosen}
 use Rattle.rule.specs.Rule.{nextUnder}
 use Rattle.rule.specs.declared.Rule.{Rule}
-use Rattle.score_table.specs.ScoreTable.{tableSize, unitPlace, unitEntry, rowChoice}
-use Rattle.solver.specs.Jobs.{jobFits}
+use Rattle.board.specs.Checks.{tableSize}
+use Rattle.score_table.specs.ScoreTable.{unitPlace, unitEntry, rowChoice}
+use Rattle.job.specs.Jobs.{jobFits}
 use Rattle.solver.specs.Units.{State, Step, next, spoiled, chooseStep, stageStep, unitOf}
 use Rattle.solver.specs.Inner.{Lent, Chooses}
 use Rattle.score_table.specs.Inner.{Memory}
-use Rattle.solver.specs.declared.Stage.{Stage}
-use Rattle.solver.specs.declared.Job.{Job}
-use Rattle.solver.proofs.Fits.{Choosing, jobAt, fits-at}
+use Rattle.job.specs.declared.Stage.{Stage}
+use Rattle.job.specs.declared.Job.{Job}
+use Rattle.job.proofs.Fits.{Choosing, jobAt, fits-at}
 use Rattle.solver.proofs.Writing.{written-length}
 use Rattle.solver.proofs.Machine.{Steps, unit-law, here-fits}
 
@@ -89,17 +90,6 @@ lent-memory {j} L =
 pub lent-early : {j : Job} {g t β : List ℕ} → Lent j g t β → j .stage ≡ Stage.Filling → j .units < tableSize (j .width) (j .height)
 lent-early {j} L e = rw e at (fits-at j (L .taken) .stage)
 
-pub lent-chooses : {j : Job} {g t β : List ℕ} {above last live : ℕ} → Lent j g t β → j .stage ≡ Stage.Choosing above last live → Chooses j above last live g t β
-lent-chooses {j} {above = above} {last = last} {live = live} L e =
-    let T = fits-at j (L .taken) in
-    let F : Choosing (j .width) (j .height) (j .units) above last live = rw e at (T .stage) in
-    let k : j .units - tableSize (j .width) (j .height) ≤ 60 = omega (arith, F .until, F .from, T .frame .size .low) in
-    record {
-      memory = lent-memory L;
-      over = F .over;
-      below = F .below;
-      from = F .from;
-      until = F .until;
-      few = omega (arith, F .rows .few, mul-le-mul (T .frame .size .narrow) k);
-      cells = L .cells;
-    }
+-- where a row is to be chosen, which one, and below which
+pub chooses-at : {j : Job} {above last : ℕ} {g t β : List ℕ} (C : Chooses j above last g t β) → Choosing (j .width) (j .height) (j .units) above last (C .live)
+chooses-at {j} C = rw (C .stage) at (fits-at j (C .lent .taken) .stage)

@@ -5,11 +5,11 @@ use mathlib.Core.Bool.{true, true≢false}
 use mathlib.Core.List.{List, []}
 use Prim.Native.Nat.{ℕ, zero, suc}
 use Rattle.board.specs.Answers.{refuses}
-use Rattle.solver.specs.Jobs.{stageSays}
+use Rattle.solver.specs.Working.{stageSays}
 use Rattle.solver.specs.Units.{State, next, spoiled, unitOf}
 use Rattle.solver.specs.Calls.{worksOn}
 use Rattle.solver.specs.Inner.{hasEnded}
-use Rattle.solver.specs.declared.Stage.{Stage}
+use Rattle.job.specs.declared.Stage.{Stage}
 
 module _ (g : List ℕ) where
   pub works-none : (s : State) → worksOn g 0 s ≡ record { answer = stageSays (s .job .stage); state = s }

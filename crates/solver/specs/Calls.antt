@@ -1,39 +1,14 @@
--- Document 01, "A job and its units" and "Turned away": what opening, pausing, resuming and working answer and leave, for every input.
+-- Document 01, "A job and its units" and "Turned away": what working answers and leaves, for every input.
 -- Assumes nothing.
 use mathlib.Core.Path.{_≡_}
 use mathlib.Core.List.{List, []}
 use Prim.Native.Nat.{ℕ, zero, suc}
 use Rattle.board.specs.Answers.{Answer, gives, refuses}
-use Rattle.rule.specs.declared.Rule.{Rule}
-use Rattle.solver.specs.Jobs.{jobOf, start, openRule, pauseRule, resumeRule, workCheck, stageSays, openedSays, pausedSays, resumedSays, statusSays}
+use Rattle.job.specs.declared.Job.{Job}
+use Rattle.solver.specs.Working.{workCheck, stageSays, statusSays}
 use Rattle.solver.specs.Units.{State, Step, next, spoiled, unitOf}
-use Rattle.solver.specs.declared.Job.{Job}
-use Rattle.solver.specs.declared.Checkpoint.{Checkpoint}
-use Rattle.solver.specs.declared.Opened.{Opened}
-use Rattle.solver.specs.declared.Paused.{Paused}
-use Rattle.solver.specs.declared.Resumed.{Resumed}
 use Rattle.solver.specs.declared.Worked.{Worked}
 
--- opening hands out the job at unit 0
-pub record Opens (rule : Rule) (w h : ℕ) (givens : List ℕ) (r : Opened) : Type 0 where
-  pub says : openedSays r ≡ openRule rule w h givens
-  pub job : (j : Job) → r ≡ Opened.Ready j → j ≡ start rule w h
-
--- pausing gives the nine numbers
-pub record Pauses (j : Job) (r : Paused) : Type 0 where
-  pub says : pausedSays r ≡ pauseRule j
-
--- resuming hands out the job of nine numbers
-pub record Resumes (t : Checkpoint) (r : Resumed) : Type 0 where
-  pub says : resumedSays r ≡ resumeRule t
-  pub job : (j : Job) → r ≡ Resumed.Ready j → j ≡ jobOf t
-
--- THE JOB RESUMED EQUALS THE ONE PAUSED: of what the two calls hand back, for every job that pausing takes
-unfoldable pub RoundTrip : Type 0
-RoundTrip =
-    (j : Job) (p : Paused) (t : Checkpoint) (r : Resumed) → Pauses j p → p ≡ Paused.Numbers t → Resumes t r → r ≡ Resumed.Ready j
-
--- ---- working
 -- what a working call answers, and the job, table and board that it leaves
 pub record Result : Type 0 where
   pub answer : Answer

@@ -10,14 +10,17 @@ use Rattle.elimination.specs.Kind.{rightEntry}
 use Rattle.rule.specs.Rule.{nextUnder}
 use Rattle.rule.specs.declared.Rule.{Rule}
 use Rattle.solver.specs.Grid.{Solution, Optimal, score}
-use Rattle.score_table.specs.ScoreTable.{kindOf, tableSize, rowsAfter, rowA, rowB, unitPlace}
-use Rattle.solver.specs.Jobs.{boardLength, noneLength, numbersOf, jobSays, checkpointSays, checkpointFits, jobFits, jobOf, pauseRule, resumeRule, workCheck, unfinished, finished, infeasible}
+use Rattle.score_table.specs.ScoreTable.{kindOf, rowsAfter, rowA, rowB, unitPlace}
+use Rattle.board.specs.Checks.{tableSize}
+use Rattle.job.specs.Jobs.{boardLength, noneLength, jobSays, checkpointSays, checkpointFits, jobOf, pauseRule, resumeRule}
+use Rattle.solver.specs.Working.{workCheck, unfinished, finished, infeasible}
 use Rattle.solver.specs.Units.{State}
-use Rattle.solver.specs.Calls.{Opens, Result, workOf}
-use Rattle.solver.specs.declared.Stage.{Stage}
-use Rattle.solver.specs.declared.Job.{Job}
-use Rattle.solver.specs.declared.Checkpoint.{Checkpoint}
-use Rattle.solver.specs.declared.Opened.{Opened}
+use Rattle.job.specs.Calls.{Opens, Pausable}
+use Rattle.solver.specs.Calls.{Result, workOf}
+use Rattle.job.specs.declared.Stage.{Stage}
+use Rattle.job.specs.declared.Job.{Job}
+use Rattle.job.specs.declared.Checkpoint.{Checkpoint}
+use Rattle.job.specs.declared.Opened.{Opened}
 
 -- ---- a list of calls
 -- A working call lends givens, a table and a board, and has an allowance. It and a pause get the job last handed out.
@@ -83,13 +86,6 @@ pub record WorkAnswers (long : ℕ) (final : Answer) (check : Answer) (lent : St
   pub sound : (values : List ℕ) → result .answer ≡ refuses 9 values → ⊥
   pub below : check ≡ passed → result .state .job .units < long → result .answer ≡ unfinished
   pub from : check ≡ passed → long ≤ result .state .job .units → result .answer ≡ final
-
--- Check 7 passes on a job, pausing gives its numbers, and resuming them gives the job back.
-pub record Pausable (j : Job) : Type 0 where
-  pub taken : jobFits j ≡ true
-  pub pauses : pauseRule j ≡ gives (jobSays j)
-  pub resumes : resumeRule (numbersOf j) ≡ gives (jobSays j)
-  pub back : jobOf (numbersOf j) ≡ j
 
 -- A resumption that passes hands this job out again; one that is turned away answers 7 and hands out none. Either leaves everything as it is.
 pub record ResumeAnswers (t : Checkpoint) (s : State) : Type 0 where

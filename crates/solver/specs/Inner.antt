@@ -3,15 +3,14 @@
 use mathlib.Core.Path.{_≡_}
 use mathlib.Core.Bool.{Bool, true, false}
 use mathlib.Core.List.{List}
-use Prim.Native.Nat.{ℕ, _+_, _*_, _^_, _≤_, _<_}
+use Prim.Native.Nat.{ℕ, _*_, _≤_}
 use lib.ListN.{length}
-use Rattle.score_table.specs.ScoreTable.{tableSize}
-use Rattle.score_table.specs.Inner.{Memory}
-use Rattle.solver.specs.Jobs.{jobFits}
-use Rattle.solver.specs.Units.{State, Step, next, spoiled, stageStep, unitOf}
+use Rattle.board.specs.Checks.{tableSize}
+use Rattle.job.specs.Jobs.{jobFits}
+use Rattle.solver.specs.Units.{State, Step, next, spoiled, unitOf}
 use Rattle.solver.specs.declared.choosing.Stepped.{Stepped}
-use Rattle.solver.specs.declared.Stage.{Stage}
-use Rattle.solver.specs.declared.Job.{Job}
+use Rattle.job.specs.declared.Stage.{Stage}
+use Rattle.job.specs.declared.Job.{Job}
 
 -- the job has ended
 abbrev pub hasEnded : Stage → Bool
@@ -30,14 +29,11 @@ pub record Lent (j : Job) (givens table board : List ℕ) : Type 0 where
   pub cells : length board ≡ j .width * j .height
   pub entries : tableSize (j .width) (j .height) ≤ length table
 
-pub record Chooses (j : Job) (above last live : ℕ) (givens table board : List ℕ) : Type 0 where
-  pub memory : Memory (j .width) (j .height) givens table
-  pub over : above < 2 ^ j .width
-  pub below : last < 2 ^ j .width
-  pub from : tableSize (j .width) (j .height) ≤ j .units
-  pub until : j .units < tableSize (j .width) (j .height) + j .height
-  pub few : live ≤ 600
-  pub cells : length board ≡ j .width * j .height
+-- and where a row is to be chosen
+pub record Chooses (j : Job) (above last : ℕ) (givens table board : List ℕ) : Type 0 where
+  pub lent : Lent j givens table board
+  pub live : ℕ
+  pub stage : j .stage ≡ Stage.Choosing above last live
 
 abbrev pub stepOf : Stepped → List ℕ → List ℕ → Step
 stepOf (Stepped.Next j) table board = next (lentState j table board)
@@ -47,7 +43,3 @@ stepOf Stepped.Spoiled table board = spoiled
 pub record Moves (j : Job) (givens table board : List ℕ) (r : Stepped) (table′ board′ : List ℕ) : Type 0 where
   pub step : stepOf r table′ board′ ≡ unitOf givens (lentState j table board)
   pub same : r ≡ Stepped.Spoiled → (table′ ≡ table) × (board′ ≡ board)
-
-pub record Chosen (j : Job) (above last live : ℕ) (givens table board : List ℕ) (r : Stepped) (board′ : List ℕ) : Type 0 where
-  pub step : stepOf r table board′ ≡ stageStep givens (j .rule) (j .width) (j .height) (j .units) (Stage.Choosing above last live) table board
-  pub same : r ≡ Stepped.Spoiled → board′ ≡ board

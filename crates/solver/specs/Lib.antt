@@ -1,6 +1,6 @@
 pub mod Grid
 pub mod Rows
-pub mod Jobs
+pub mod Working
 pub mod Units
 pub mod Calls
 pub mod Demand

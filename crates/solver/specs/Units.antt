@@ -3,16 +3,18 @@
 use mathlib.Core.Bool.{cond}
 use mathlib.Core.List.{List}
 use Prim.Native.Nat.{ℕ, _+_, _*_, _-_}
-use lib.Dec.{eqb, ltb}
+use lib.Dec.{eqb}
 use lib.ListN.{set}
+use Rattle.board.specs.Checks.{tableSize}
 use Rattle.elimination.specs.Candidates.{Choice, nothing, chosen}
 use Rattle.rule.specs.Rule.{nextUnder}
 use Rattle.rule.specs.declared.Rule.{Rule}
 use Rattle.score_table.specs.Rows.{rowWorth}
 use Rattle.solver.specs.Rows.{written}
-use Rattle.score_table.specs.ScoreTable.{tableSize, unitPlace, unitEntry, rowChoice}
-use Rattle.solver.specs.declared.Stage.{Stage}
-use Rattle.solver.specs.declared.Job.{Job}
+use Rattle.score_table.specs.ScoreTable.{unitPlace, unitEntry, rowChoice}
+use Rattle.job.specs.Jobs.{afterEntry, afterRow, afterNone}
+use Rattle.job.specs.declared.Stage.{Stage}
+use Rattle.job.specs.declared.Job.{Job}
 
 -- a job with the table and the board that it is lent
 pub record State : Type 0 where
@@ -26,33 +28,25 @@ pub data Step : Type 0 where
   spoiled : Step
 
 -- ---- filling
--- the stage once u entries are written
-abbrev pub filledTo : ℕ → ℕ → ℕ → Stage
-filledTo w h u = cond (ltb u (tableSize w h)) Stage.Filling (Stage.Choosing 0 0 0)
-
 abbrev pub fillStep : List ℕ → Rule → ℕ → ℕ → ℕ → List ℕ → List ℕ → Step
 fillStep givens rule w h u table board =
     next record {
-      job = record { rule = rule; width = w; height = h; units = u + 1; stage = filledTo w h (u + 1) };
+      job = afterEntry rule w h u;
       table = set table (unitPlace w h u) (unitEntry (nextUnder rule) w h givens table u);
       board = board;
     }
 
 -- ---- choosing
--- the stage once k rows are chosen, the last two of them `above` and `last`, worth n
-abbrev pub chosenTo : ℕ → ℕ → ℕ → ℕ → ℕ → Stage
-chosenTo h k above last n = cond (ltb k h) (Stage.Choosing above last n) (Stage.Finished above last n)
-
 -- a row is written into its part of the board; where there is none, the job ends at row 1, and the table is spoiled at a later row
 abbrev pub chooseStep : List ℕ → Rule → ℕ → ℕ → ℕ → ℕ → ℕ → ℕ → List ℕ → List ℕ → Choice ℕ → Step
 chooseStep givens rule w h u r last soFar table board (chosen c n) =
     next record {
-      job = record { rule = rule; width = w; height = h; units = u + 1; stage = chosenTo h (r + 1) last c (soFar + rowWorth w givens (r * w) c) };
+      job = afterRow rule w h u r last c (soFar + rowWorth w givens (r * w) c);
       table = table;
       board = written w c board (r * w) w;
     }
 chooseStep givens rule w h u r last soFar table board nothing =
-    cond (eqb r 0) (next record { job = record { rule = rule; width = w; height = h; units = u + 1; stage = Stage.Infeasible }; table = table; board = board }) spoiled
+    cond (eqb r 0) (next record { job = afterNone rule w h u; table = table; board = board }) spoiled
 
 -- ---- a unit, by the job's stage; an ended job stays as it is
 abbrev pub stageStep : List ℕ → Rule → ℕ → ℕ → ℕ → Stage → List ℕ → List ℕ → Step

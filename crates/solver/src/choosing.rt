@@ -1,14 +1,13 @@
 // Choosing: one row of the board a unit.
-use crate::Job;
-use crate::Stage;
-use crate::numbers;
+use job::Done;
+use job::Job;
 use score_table::Picked;
 ghost use mathlib.Core.Path.{_≡_};
 ghost use Prim.Native.Nat.{_+_, _≤_};
 ghost use lib.ListN.{length};
 ghost use Rattle.rule.specs.Rule.{Holds, nextUnder};
 ghost use Rattle.solver.specs.Rows.{written};
-ghost use Rattle.solver.specs.Inner.{Chooses, Chosen};
+ghost use Rattle.solver.specs.Inner.{Chooses, Moves};
 
 // What a unit comes to: the next job, or no row can be chosen after row 1.
 pub enum Stepped {
@@ -22,56 +21,27 @@ pub fn choose(
     job: Job,
     above: usize,
     last: usize,
-    live: usize,
     givens: &[u8],
     table: &[u16],
     board: &mut [u8],
 ) -> Stepped
     requires { ⌜ Holds (nextUnder (job .rule)) (now next) ⌝ }
-    requires { ⌜ Chooses job above last live (now givens) (now table) (now board) ⌝ }
-    ensures { λ r. ⌜ Chosen job above last live (now (givens .entry)) (now (table .entry)) (now (board .entry)) r (now (board .exit)) ⌝ }
+    requires { ⌜ Chooses job above last (now givens) (now table) (now board) ⌝ }
+    ensures { λ r. ⌜ Moves job (now (givens .entry)) (now (table .entry)) (now (board .entry)) r (now (table .entry)) (now (board .exit)) ⌝ }
 {
-    let rule = job.rule;
     let w = job.width;
     let h = job.height;
-    let u = job.units;
-    let r = u - numbers::table_size(w, h);
+    let r = job.units - (h << (2 * w));
     match score_table::choose_row(next, w, h, r, above, last, givens, table) {
         Picked::Nothing => {
             if r != 0 {
                 return Stepped::Spoiled;
             }
-            Stepped::Next(Job {
-                rule,
-                width: w,
-                height: h,
-                units: u + 1, // spent, with nothing written
-                stage: Stage::Infeasible,
-            })
+            Stepped::Next(job.after(Done::NoRow))
         }
         Picked::Row { row, worth, sum: _ } => {
             write_row(w, row, board, r * w);
-            let n = live + worth;
-            let stage = if r + 1 < h {
-                Stage::Choosing {
-                    above: last,
-                    last: row,
-                    live: n,
-                }
-            } else {
-                Stage::Finished {
-                    above: last,
-                    last: row,
-                    score: n,
-                }
-            };
-            Stepped::Next(Job {
-                rule,
-                width: w,
-                height: h,
-                units: u + 1, // one row
-                stage,
-            })
+            Stepped::Next(job.after(Done::Row { row, worth }))
         }
     }
 }

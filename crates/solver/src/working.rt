@@ -1,26 +1,27 @@
 // A working call: its checks, and then its units.
-use crate::Job;
-use crate::Stage;
 use crate::Status;
 use crate::Worked;
 use crate::choosing;
 use crate::choosing::Stepped;
-use crate::numbers;
 use board::Check;
 use board::Refusal;
+use job::Done;
+use job::Job;
+use job::Paused;
+use job::Stage;
 ghost use mathlib.Core.Path.{_≡_};
 ghost use Rattle.board.specs.Answers.{checkSays};
 ghost use Rattle.rule.specs.Rule.{Holds, nextUnder};
-ghost use Rattle.solver.specs.Jobs.{workCheck, stageSays, statusSays};
+ghost use Rattle.solver.specs.Working.{workCheck, stageSays, statusSays};
 ghost use Rattle.solver.specs.Calls.{resultOf, worksOn};
 ghost use Rattle.solver.specs.Inner.{Lent, Moves, hasEnded, lentState};
 
-// The checks of a working call: 7, 3, 4, 5, 6.
+// The checks of a working call: 7 as pausing, then 3, 4, 5, 6.
 pub fn check_work(job: Job, givens: &[u8], table: &[u16], board: &[u8]) -> Check
     ensures { λ r. ⌜ checkSays r ≡ workCheck job (now (givens .entry)) (now (table .entry)) (now (board .entry)) ⌝ }
 {
-    if !numbers::job_fits(job) {
-        return Check::Refused(Refusal::Checkpoint);
+    if let Paused::Refused(r) = job.pause() {
+        return Check::Refused(r);
     }
     let w = job.width;
     let h = job.height;
@@ -30,7 +31,7 @@ pub fn check_work(job: Job, givens: &[u8], table: &[u16], board: &[u8]) -> Check
     if !board::has_length(board, w, h) {
         return Check::Refused(Refusal::BoardLength);
     }
-    if table.len() < numbers::table_size(w, h) {
+    if table.len() >> (2 * w) < h {
         return Check::Refused(Refusal::ShortTable);
     }
     Check::Passed
@@ -84,38 +85,14 @@ fn unit(next: &[u8; 512], job: Job, givens: &[u8], table: &mut [u16], board: &mu
     let stage = job.stage;
     match stage {
         Stage::Filling => {
-            let rule = job.rule;
-            let w = job.width;
-            let h = job.height;
-            let u = job.units;
-            score_table::fill(next, w, h, u, givens, table);
-            let stage = if u + 1 < numbers::table_size(w, h) {
-                Stage::Filling
-            } else {
-                Stage::Choosing {
-                    above: 0,
-                    last: 0,
-                    live: 0,
-                }
-            };
-            Stepped::Next(Job {
-                rule,
-                width: w,
-                height: h,
-                units: u + 1, // one entry
-                stage,
-            })
+            score_table::fill(next, job.width, job.height, job.units, givens, table);
+            Stepped::Next(job.after(Done::Entry))
         }
-        Stage::Choosing { above, last, live } => choosing::choose(
-            next,
-            job,
+        Stage::Choosing {
             above,
             last,
-            live,
-            givens,
-            table,
-            board,
-        ),
+            live: _,
+        } => choosing::choose(next, job, above, last, givens, table, board),
         Stage::Finished {
             above: _,
             last: _,

@@ -5,13 +5,13 @@ use crate::plain;
 use crate::plain::Best;
 use crate::sizes::Size;
 use board::Refusal;
+use job::Checkpoint;
+use job::Job;
+use job::Opened;
+use job::Paused;
+use job::Resumed;
+use job::Stage;
 use rule::Rule;
-use solver::Checkpoint;
-use solver::Job;
-use solver::Opened;
-use solver::Paused;
-use solver::Resumed;
-use solver::Stage;
 use solver::Status;
 use solver::Worked;
 use std::num;
@@ -35,7 +35,7 @@ pub fn exact(s: Size) -> Lent {
 
 pub fn open(rule: Rule, w: usize, h: usize, givens: &[u8], n: usize) -> Opened {
     let g = least(n, givens.len());
-    solver::open(rule, w, h, &givens[..g])
+    job::open(rule, w, h, &givens[..g])
 }
 
 // A grid's job, or none where opening is refused.
@@ -88,7 +88,13 @@ fn work_over(
     let g = least(lent.givens, givens.len());
     let t = least(lent.table, table.len());
     let b = least(lent.board, board.len());
-    job.work(&givens[..g], &mut table[..t], &mut board[..b], allowance)
+    solver::work(
+        job,
+        &givens[..g],
+        &mut table[..t],
+        &mut board[..b],
+        allowance,
+    )
 }
 
 pub fn least(a: usize, b: usize) -> usize

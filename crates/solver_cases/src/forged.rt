@@ -10,10 +10,10 @@ use crate::sizes;
 use crate::sizes::Size;
 use crate::unit;
 use crate::unit::Ran;
+use job::Checkpoint;
+use job::Job;
+use job::Resumed;
 use rule::Rule;
-use solver::Checkpoint;
-use solver::Job;
-use solver::Resumed;
 use solver::Status;
 use std::num;
 

@@ -6,12 +6,12 @@ use crate::rules;
 use crate::sizes;
 use crate::sizes::Size;
 use crate::unit;
+use job::Checkpoint;
+use job::Job;
+use job::Paused;
+use job::Resumed;
+use job::Stage;
 use rule::Rule;
-use solver::Checkpoint;
-use solver::Job;
-use solver::Paused;
-use solver::Resumed;
-use solver::Stage;
 use std::num;
 
 // What was tried.

@@ -8,8 +8,8 @@ use crate::plain;
 use crate::plain::Best;
 use crate::random;
 use crate::sizes::Size;
-use solver::Job;
-use solver::Stage;
+use job::Job;
+use job::Stage;
 use solver::Status;
 use std::num;
 

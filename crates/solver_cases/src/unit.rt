@@ -5,10 +5,10 @@ use crate::plain;
 use crate::plain::Masks;
 use crate::sizes;
 use crate::sizes::Size;
+use job::Checkpoint;
+use job::Job;
+use job::Stage;
 use rule::Rule;
-use solver::Checkpoint;
-use solver::Job;
-use solver::Stage;
 use std::num;
 
 // A job's numbers, and the memory that its units left. The mark is 3 where no row could be chosen after row 1.

@@ -1,10 +1,10 @@
 // The best still boards of the free squares of side 3 to 10: their scores, the units done, and that each is still.
+use job::Job;
+use job::Opened;
+use job::Paused;
+use job::Resumed;
+use job::Stage;
 use life::Verdict;
-use solver::Job;
-use solver::Opened;
-use solver::Paused;
-use solver::Resumed;
-use solver::Stage;
 use solver::Status;
 use std::num;
 ghost use Prim.Native.Nat.{_≤_};
@@ -56,7 +56,7 @@ fn least(a: usize, b: usize) -> usize
 }
 
 fn solve_part(side: usize, givens: &[u8], table: &mut [u16], board: &mut [u8]) {
-    match solver::open(rule::conway(), side, side, givens) {
+    match job::open(rule::conway(), side, side, givens) {
         Opened::Ready(job) => {
             let ended = run(job, givens, table, board);
             print(side, ended, board);
@@ -88,7 +88,7 @@ fn pause_and_resume(job: Job) -> Job {
 }
 
 fn work(job: Job, givens: &[u8], table: &mut [u16], board: &mut [u8]) -> Job {
-    let r = job.work(givens, table, board, 1000000);
+    let r = solver::work(job, givens, table, board, 1000000);
     let status = r.status;
     if let Status::Refused(why) = status {
         report::refusal(why);

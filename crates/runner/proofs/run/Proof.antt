@@ -6,7 +6,8 @@ use Prim.Native.Nat.{_-_}
 use native.Mathlib.Omega.{arith}
 use borrow.Author.Needs.{needs}
 use lib.ListN.{length}
-use Rattle.solver.specs.Jobs.{boardLength, statusSays}
+use Rattle.job.specs.Jobs.{boardLength}
+use Rattle.solver.specs.Working.{statusSays}
 use Rattle.solver.specs.Inner.{lentState}
 use Rattle.runner.proofs.Turns.{Going, ready-begins, turn-goes-on, turn-ends}
 use Rattle.runner.proofs.run.Statement.{statement}

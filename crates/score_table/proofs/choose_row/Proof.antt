@@ -8,10 +8,11 @@ use native.Mathlib.Omega.{arith}
 use borrow.Author.Tests.{not-true, not-false}
 use lib.ListN.{length}
 use Rattle.rule.specs.Rule.{entryOf}
-use Rattle.score_table.specs.ScoreTable.{tableSize, rowChoice}
+use Rattle.board.specs.Checks.{tableSize}
+use Rattle.score_table.specs.ScoreTable.{rowChoice}
 use Rattle.score_table.specs.Inner.{Memory, choiceOf}
 use Rattle.score_table.specs.Calls.{lentFits}
-use Rattle.score_table.proofs.Powers.{table-le}
+use Rattle.board.proofs.Powers.{table-le}
 use Rattle.score_table.proofs.Entries.{row-room, layer-room, found-row-choice}
 use Rattle.score_table.proofs.Calls.{lent-of, picks-unfit, picks-past, picks-above, picks-last, picks-nothing, picks-row}
 use borrow.Author.Needs.{needs}

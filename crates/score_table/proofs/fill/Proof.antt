@@ -6,7 +6,7 @@ use Prim.Native.Nat.{ℕ, _*_, _≤_, _<_}
 use native.Mathlib.Nat.{mul-le-mul}
 use native.Mathlib.Omega.{arith}
 use borrow.Author.Tests.{not-true, not-false}
-use Rattle.score_table.specs.ScoreTable.{tableSize}
+use Rattle.board.specs.Checks.{tableSize}
 use Rattle.score_table.specs.Inner.{Memory}
 use Rattle.score_table.specs.Calls.{lentFits}
 use Rattle.score_table.proofs.Calls.{lent-of, fill-unfit, fill-past, fill-done}

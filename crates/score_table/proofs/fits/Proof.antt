@@ -6,7 +6,7 @@ use native.Mathlib.Nat.{mul-le-mul}
 use native.Mathlib.Omega.{arith}
 use lib.Dec.{leb}
 use lib.ListN.{length}
-use Rattle.score_table.specs.ScoreTable.{tableSize}
+use Rattle.board.specs.Checks.{tableSize}
 use Rattle.score_table.proofs.Calls.{lent-wide, lent-tall, lent-marks, lent-entries}
 use borrow.Author.Needs.{needs}
 use Rattle.score_table.proofs.fits.Statement.{statement}

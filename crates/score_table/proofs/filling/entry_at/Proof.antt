@@ -9,7 +9,7 @@ use lib.Pow.{pow-pos}
 use Rattle.elimination.specs.Kind.{worthOf}
 use Rattle.score_table.specs.Inner.{choiceOf}
 use Rattle.score_table.specs.declared.best.Best.{Best}
-use Rattle.score_table.proofs.Powers.{table-le}
+use Rattle.board.proofs.Powers.{table-le}
 use Rattle.score_table.proofs.Entries.{row-room, layer-room, row-a-lt, row-b-lt, after-lt, entry-apart, entry-open, entry-ends, entry-best}
 use borrow.Author.Needs.{needs}
 use Rattle.score_table.proofs.filling.entry_at.Statement.{statement}

@@ -1,7 +1,7 @@
 -- `score_table::filling::layer_size` meets its contract: 4^w is 2 to the 2 w, and it fits.
 -- Assumes nothing.
 use borrow.Author.Needs.{needs}
-use Rattle.score_table.proofs.Powers.{four-pos, four-le, four-shift}
+use Rattle.board.proofs.Powers.{four-pos, four-le, four-shift}
 use Rattle.score_table.proofs.filling.layer_size.Statement.{statement}
 use Rattle.score_table.proofs.filling.layer_size.Tie as tie
 

@@ -6,8 +6,8 @@ use native.Mathlib.Nat.{mul-le-mul}
 use native.Mathlib.Omega.{arith}
 use lib.ListN.{set}
 use mathlib.Core.Path.{refl}
-use Rattle.score_table.specs.ScoreTable.{tableSize}
-use Rattle.score_table.proofs.Powers.{table-le}
+use Rattle.board.specs.Checks.{tableSize}
+use Rattle.board.proofs.Powers.{table-le}
 use Rattle.score_table.proofs.Entries.{after-lt, place-below, place-is}
 use borrow.Author.Needs.{needs}
 use Rattle.score_table.proofs.filling.write_entry.Statement.{statement}

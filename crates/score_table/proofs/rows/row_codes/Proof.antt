@@ -1,7 +1,7 @@
 -- `score_table::rows::row_codes` meets its contract: a shift of 1 is a power of 2, and it fits.
 -- Assumes nothing.
 use borrow.Author.Needs.{needs}
-use Rattle.score_table.proofs.Powers.{two-le, two-shift}
+use Rattle.board.proofs.Powers.{two-le, two-shift}
 use Rattle.score_table.proofs.rows.row_codes.Statement.{statement}
 use Rattle.score_table.proofs.rows.row_codes.Tie as tie
 

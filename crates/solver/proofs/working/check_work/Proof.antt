@@ -1,8 +1,9 @@
 -- `solver::working::check_work` meets its contract: its checks are the definition's, in the same order.
 -- Assumes nothing.
-use mathlib.Core.Path.{_≡_, sym, _∙_}
+use mathlib.Core.Path.{_≡_, sym, _∙_, ap}
 use mathlib.Core.Bool.{true}
 use Prim.Native.Nat.{_*_}
+use native.Mathlib.Omega.{arith}
 use borrow.Author.Needs.{needs}
 use borrow.Author.Tests.{le-leb, lt-leb, not-true, not-false}
 use lib.Dec.{eqb}
@@ -10,46 +11,54 @@ use lib.ListN.{length}
 use Rattle.board.specs.Answers.{passed}
 use Rattle.board.specs.Checks.{givensCheck}
 use Rattle.board.proofs.Answers.{turned-away, let-through}
-use Rattle.solver.specs.Jobs.{jobFits, workCheck}
-use Rattle.solver.proofs.Fits.{fits-at}
+use Rattle.board.proofs.Powers.{shift-short, shift-long}
+use Rattle.job.specs.Jobs.{jobFits, pausedSays}
+use Rattle.job.proofs.Fits.{fits-at, paused-numbers}
+use Rattle.solver.specs.Working.{workCheck}
+use Rattle.solver.proofs.CheckLaws.{pause-refused}
 use Rattle.solver.proofs.working.check_work.Statement.{statement}
 use Rattle.solver.proofs.working.check_work.Tie as tie
 
 -- what each check that is passed shows
-job-at : (c : tie.Else1) → jobFits (c .before .before .before .before .before .args .job) ≡ true
-job-at c = sym (c .before .job-fits .ensures) ∙ not-false _ (c .if1 .left)
+job-at : (c : tie.After-enum-told) → jobFits (c .before .before .before .before .before .before .args .job) ≡ true
+job-at c = paused-numbers _ _ (sym (c .before .before .pause .ensures .says) ∙ ap pausedSays (c .enum-told .given .1)) .0
 
 marks-at :
-    (c : tie.After-enum-told) → let a = c .before .before .before .before .before .before .before .before .args in
+    (c : tie.After-enum-told2) → let a = c .before .before .before .before .before .before .before .before .before .args in
     givensCheck (a .job .width) (a .job .height) (a .givens .now) ≡ passed
-marks-at c = let-through (c .before .before .check-givens .ensures) (c .enum-told .given .1)
+marks-at c = let-through (c .before .before .check-givens .ensures) (c .enum-told2 .given .1)
 
 board-at :
-    (c : tie.Else2) → let a = c .before .before .before .before .before .before .before .before .before .before .args in
+    (c : tie.Else1) → let a = c .before .before .before .before .before .before .before .before .before .before .before .args in
     eqb (length (a .board .now)) (a .job .width * a .job .height) ≡ true
-board-at c = sym (c .before .has-length .ensures) ∙ not-false _ (c .if2 .left)
+board-at c = sym (c .before .has-length .ensures) ∙ not-false _ (c .if1 .left)
 
-job-fits-requires : tie.Need-job-fits-requires
-job-fits-requires c κs = search needs
+pause-requires : tie.Need-pause-requires
+pause-requires c κs = search needs
+
+enum-known-r : tie.Need-enum-known-r
+enum-known-r c = search needs
 
 returns : tie.Need-returns
-unfolding workCheck
-returns c = simp (sym (c .before .job-fits .ensures) ∙ not-true _ (c .if1 .taken))
+returns c = pause-refused _ _ _ _ (sym (ap pausedSays (c .before .r .given .1)) ∙ c .before .before .before .pause .ensures .says)
+
+enum-told : tie.Need-enum-told
+enum-told c = search needs
 
 check-givens-requires : tie.Need-check-givens-requires
 check-givens-requires c κs = search needs
 
-enum-known-r : tie.Need-enum-known-r
-enum-known-r c = search needs
+enum-known-r-2 : tie.Need-enum-known-r-2
+enum-known-r-2 c = search needs
 
 returns-2 : tie.Need-returns-2
 unfolding workCheck
 returns-2 c =
     let d = c .before .before .before in
-    rw (job-at (d .before)) (turned-away (d .check-givens .ensures) (c .before .r .given .1) _)
+    rw (job-at (d .before)) (turned-away (d .check-givens .ensures) (c .before .r2 .given .1) _)
 
-enum-told : tie.Need-enum-told
-enum-told c = search needs
+enum-told-2 : tie.Need-enum-told-2
+enum-told-2 c = search needs
 
 has-length-requires : tie.Need-has-length-requires
 has-length-requires c κs = search needs
@@ -58,45 +67,51 @@ returns-3 : tie.Need-returns-3
 unfolding workCheck
 returns-3 c =
     let d = c .before .before in
-    simp (job-at (d .before .before .before), marks-at d, sym (c .before .has-length .ensures) ∙ not-true _ (c .if2 .taken))
+    simp (job-at (d .before .before .before), marks-at d, sym (c .before .has-length .ensures) ∙ not-true _ (c .if1 .taken))
 
-table-size-requires : tie.Need-table-size-requires
-table-size-requires c κs = let s = fits-at _ (job-at (c .before .before .before .before .before)) .frame .size in (s .narrow, s .low)
+mul-if2 : tie.Need-mul-if2
+mul-if2 c = omega (arith, fits-at _ (job-at (c .before .before .before .before .before)) .frame .size .narrow)
+
+shr-if2 : tie.Need-shr-if2
+shr-if2 c = omega (arith, fits-at _ (job-at (c .before .before .before .before .before)) .frame .size .narrow)
 
 returns-4 : tie.Need-returns-4
 unfolding workCheck
 returns-4 c =
-    let d = c .before .before in
+    let d = c .before in
     simp (
       job-at (d .before .before .before .before .before),
       marks-at (d .before .before),
       board-at d,
-      lt-leb _ _ (rw (c .before .table-size .ensures .0) at (c .if3 .taken)),
+      lt-leb _ _ (shift-short _ _ _ (c .if2 .taken)),
     )
 
 returns-5 : tie.Need-returns-5
 unfolding workCheck
 returns-5 c =
-    let d = c .before .before in
+    let d = c .before in
     simp (
       job-at (d .before .before .before .before .before),
       marks-at (d .before .before),
       board-at d,
-      le-leb _ _ (rw (c .before .table-size .ensures .0) at (c .if3 .left)),
+      le-leb _ _ (shift-long _ _ _ (c .if2 .left)),
     )
 
 pub check-work-spec : {M : Type 1} → statement M
 check-work-spec =
     tie.close
     (tie.spec
-    job-fits-requires
-    returns
-    check-givens-requires
+    pause-requires
     enum-known-r
-    returns-2
+    returns
     enum-told
+    check-givens-requires
+    enum-known-r-2
+    returns-2
+    enum-told-2
     has-length-requires
     returns-3
-    table-size-requires
+    mul-if2
+    shr-if2
     returns-4
     returns-5)

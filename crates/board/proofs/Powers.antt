@@ -1,0 +1,50 @@
+-- Powers of 2 and 4 as the code's shifts compute them, and their bounds.
+-- Assumes nothing.
+use mathlib.Core.Path.{_≡_, refl}
+use Prim.Native.Nat.{ℕ, zero, suc, _+_, _*_, _/_, _%_, _^_, _<_, _≤_}
+use native.Mathlib.Nat.{mod-eq-of-lt, one-mul, mul-le-mul, pow-suc, div-lt-iff-lt-mul, le-div-iff-mul-le}
+use native.Mathlib.Omega.{arith}
+use lib.Pow.{pow-pos, pow-mono, pow-add}
+use Rattle.board.specs.Checks.{tableSize}
+
+-- ---- 2^w
+pub two-le : {w : ℕ} → w ≤ 10 → 2 ^ w ≤ 1024
+two-le l = pow-mono l
+
+pub two-shift : {w : ℕ} → w ≤ 10 → 1 * 2 ^ w % 2 ^ 64 ≡ 2 ^ w
+two-shift {w} l = let b : 2 ^ w ≤ 1024 = two-le l in rw one-mul (mod-eq-of-lt (omega arith))
+
+-- ---- 4^w
+pub four-pow : (w : ℕ) → 2 ^ (2 * w) ≡ 4 ^ w
+four-pow zero = refl
+four-pow (suc w) = let e : 2 * suc w ≡ 2 * w + 2 = omega arith in rw (e, pow-add 2 (2 * w) 2, pow-suc 4 w, four-pow w)
+
+pub four-two : (w : ℕ) → 4 ^ w ≡ 2 ^ w * 2 ^ w
+four-two w = let e : 2 * w ≡ w + w = omega arith in rw (← (four-pow w), e) (pow-add 2 w w)
+
+pub four-pos : (w : ℕ) → 0 < 4 ^ w
+four-pos w = rw (four-pow w) at (pow-pos (2 * w))
+
+pub four-le : {w : ℕ} → w ≤ 10 → 4 ^ w ≤ 1048576
+four-le {w} l = let b : 2 ^ (2 * w) ≤ 2 ^ 20 = pow-mono {j = 20} (omega arith) in rw (four-pow w) at b
+
+pub four-shift : {w : ℕ} → w ≤ 10 → 1 * 2 ^ (2 * w) % 2 ^ 64 ≡ 4 ^ w
+four-shift {w} l = let b : 4 ^ w ≤ 1048576 = four-le l in rw (one-mul, four-pow w) (mod-eq-of-lt (omega arith))
+
+-- ---- h × 4^w
+pub table-le : {w h : ℕ} → w ≤ 10 → h ≤ 60 → tableSize w h ≤ 62914560
+unfolding tableSize
+table-le {w} {h} l m = let b : h * 4 ^ w ≤ 60 * 1048576 = mul-le-mul m (four-le l) in omega arith
+
+pub table-shift : {w h : ℕ} → w ≤ 10 → h ≤ 60 → h * 2 ^ (2 * w) % 2 ^ 64 ≡ tableSize w h
+unfolding tableSize
+table-shift {w} {h} l m = let b : h * 4 ^ w ≤ 62914560 = table-le l m in rw (four-pow w) (mod-eq-of-lt (omega arith))
+
+-- a number is below it exactly where a shift by 2 w leaves less than h
+pub shift-short : (w h x : ℕ) → x / 2 ^ (2 * w) < h → x < tableSize w h
+unfolding tableSize
+shift-short w h x l = rw (← (four-pow w)) (div-lt-iff-lt-mul (pow-pos (2 * w)) .0 l)
+
+pub shift-long : (w h x : ℕ) → h ≤ x / 2 ^ (2 * w) → tableSize w h ≤ x
+unfolding tableSize
+shift-long w h x l = rw (← (four-pow w)) (le-div-iff-mul-le (pow-pos (2 * w)) .0 l)

@@ -1,0 +1,79 @@
+-- `job::open` meets its contract: the check of the size and the rule decides, or else the givens'.
+-- Assumes nothing.
+use mathlib.Core.Path.{_≡_, refl}
+use mathlib.Core.List.{List}
+use Prim.Native.Nat.{ℕ}
+use native.Mathlib.Omega.{arith}
+use borrow.Author.Needs.{needs}
+use Rattle.board.specs.Answers.{refusalSays}
+use Rattle.board.specs.declared.Refusal.{Refusal}
+use Rattle.board.proofs.Answers.{turned-away, passed-on}
+use Rattle.rule.specs.declared.Rule.{Rule}
+use Rattle.job.specs.declared.Job.{Job}
+use Rattle.job.specs.declared.Opened.{Opened}
+use Rattle.job.specs.Jobs.{openRule}
+use Rattle.job.specs.Calls.{Opens}
+use Rattle.job.proofs.open.Statement.{statement}
+use Rattle.job.proofs.open.Tie as tie
+
+-- a refusal hands out no job
+refused : {rule : Rule} {w h : ℕ} {givens : List ℕ} {r : Refusal} → refusalSays r ≡ openRule rule w h givens → Opens rule w h givens (Opened.Refused r)
+refused e = record { says = e; job = λ j q. absurd (let z : _≡_ {A = ℕ} 0 1 = cc in omega arith) }
+
+-- what is handed out is the job that was made
+handed : {i j : Job} → Opened.Ready i ≡ Opened.Ready j → j ≡ i
+handed e = cc
+
+check-requires : tie.Need-check-requires
+check-requires c κs = search needs
+
+enum-known-r : tie.Need-enum-known-r
+enum-known-r c = search needs
+
+returns : tie.Need-returns
+unfolding openRule
+returns c = refused (turned-away (c .before .before .before .check .ensures) (c .before .r .given .1) _)
+
+enum-told : tie.Need-enum-told
+enum-told c = search needs
+
+check-givens-requires : tie.Need-check-givens-requires
+check-givens-requires c κs = search needs
+
+enum-known-r-2 : tie.Need-enum-known-r-2
+enum-known-r-2 c = search needs
+
+returns-2 : tie.Need-returns-2
+unfolding openRule
+returns-2 c =
+    let d = c .before .before .before in
+    refused
+    (passed-on (d .before .before .before .check .ensures) (d .before .enum-told .given .1)
+    (turned-away (d .check-givens .ensures) (c .before .r2 .given .1) _))
+
+enum-told-2 : tie.Need-enum-told-2
+enum-told-2 c = search needs
+
+returns-3 : tie.Need-returns-3
+unfolding openRule
+returns-3 c =
+    let d = c .before .before in record {
+      says =
+          passed-on (d .before .before .before .check .ensures) (d .before .enum-told .given .1)
+          (passed-on (d .check-givens .ensures) (c .enum-told2 .given .1) refl);
+      job = λ j e. handed e;
+    }
+
+pub open-spec : {M : Type 1} → statement M
+open-spec =
+    tie.close
+    (tie.spec
+    check-requires
+    enum-known-r
+    returns
+    enum-told
+    check-givens-requires
+    enum-known-r-2
+    returns-2
+    enum-told-2
+    returns-3)

@@ -1,0 +1,159 @@
+// A job of the solver as numbers: opened, paused into nine numbers and resumed from them, and handed on from unit to unit. The work that a unit
+// does on the table and the board is crate `solver`'s.
+use board::Check;
+use board::Refusal;
+use rule::Rule;
+
+mod numbers;
+mod units;
+
+ghost use mathlib.Core.Path.{_≡_};
+ghost use Rattle.job.specs.Jobs.{nextJob};
+ghost use Rattle.job.specs.Calls.{Opens, Pauses, Resumes};
+
+// What a job does next, with that stage's numbers: the last two rows chosen, and the live cells so far that were free.
+pub enum Stage {
+    Filling,
+    Choosing {
+        above: usize,
+        last: usize,
+        live: usize,
+    },
+    Finished {
+        above: usize,
+        last: usize,
+        score: usize,
+    },
+    // No still board keeps the givens.
+    Infeasible,
+}
+
+// A job: its rule, its grid's width and height, the units done, and its stage.
+pub struct Job {
+    pub rule: Rule,
+    pub width: usize,
+    pub height: usize,
+    pub units: usize,
+    pub stage: Stage,
+}
+
+// The nine numbers of a paused job: 0 running, 1 finished, 2 infeasible is its mark, and the last two are its rule.
+pub struct Checkpoint {
+    pub width: usize,
+    pub height: usize,
+    pub units: usize,
+    pub above: usize,
+    pub last: usize,
+    pub live: usize,
+    pub mark: usize,
+    pub births: usize,
+    pub survivals: usize,
+}
+
+pub enum Opened {
+    Ready(Job),
+    Refused(Refusal),
+}
+
+pub enum Paused {
+    Numbers(Checkpoint),
+    Refused(Refusal),
+}
+
+pub enum Resumed {
+    Ready(Job),
+    Refused(Refusal),
+}
+
+// What a unit of a job has done.
+pub enum Done {
+    Entry,
+    // A row, and what it earns.
+    Row { row: usize, worth: usize },
+    // No row can be chosen as row 1.
+    NoRow,
+}
+
+// A job at unit 0 under a rule for a grid of givens: w × h marks, 0 free, 1 given dead, 2 given live. Refusals 1, 2, 13, 3, 4.
+pub fn open(rule: Rule, width: usize, height: usize, givens: &[u8]) -> Opened
+    ensures { λ r. ⌜ Opens rule width height (now (givens .entry)) r ⌝ }
+{
+    if let Check::Refused(r) = rule::check(rule, width, height) {
+        return Opened::Refused(r);
+    }
+    if let Check::Refused(r) = board::check_givens(width, height, givens) {
+        return Opened::Refused(r);
+    }
+    Opened::Ready(Job {
+        rule,
+        width,
+        height,
+        units: 0,
+        stage: Stage::Filling,
+    })
+}
+
+impl Checkpoint {
+    // The job of these numbers. Refusal 7.
+    pub fn resume(self) -> Resumed
+        ensures { λ r. ⌜ Resumes self r ⌝ }
+    {
+        if !numbers::checkpoint_fits(self) {
+            return Resumed::Refused(Refusal::Checkpoint);
+        }
+        let rule = numbers::rule_of(self);
+        let stage = numbers::stage_of(self);
+        Resumed::Ready(Job {
+            rule,
+            width: self.width,
+            height: self.height,
+            units: self.units,
+            stage,
+        })
+    }
+}
+
+impl Job {
+    // The numbers of this job. Refusal 7.
+    pub fn pause(self) -> Paused
+        ensures { λ r. ⌜ Pauses self r ⌝ }
+    {
+        if !numbers::job_fits(self) {
+            return Paused::Refused(Refusal::Checkpoint);
+        }
+        Paused::Numbers(numbers::numbers_of(self))
+    }
+
+    // The job after its unit. A job that doesn't fit, or whose unit can't have done this, is handed back as it is.
+    pub fn after(self, done: Done) -> Job
+        ensures { λ r. ⌜ r ≡ nextJob self done ⌝ }
+    {
+        let job = self;
+        if !numbers::job_fits(job) {
+            return job;
+        }
+        let stage = job.stage;
+        match stage {
+            Stage::Filling => match done {
+                Done::Entry => units::after_entry(job),
+                Done::Row { row: _, worth: _ } => job,
+                Done::NoRow => job,
+            },
+            Stage::Choosing {
+                above: _,
+                last,
+                live,
+            } => match done {
+                Done::Entry => job,
+                Done::Row { row, worth } => units::after_row(job, last, live, row, worth),
+                Done::NoRow => units::after_none(job),
+            },
+            Stage::Finished {
+                above: _,
+                last: _,
+                score: _,
+            } => job,
+            Stage::Infeasible => job,
+        }
+    }
+}

@@ -1,0 +1,210 @@
+// The numbers of a job: which of them fit, and the stage that they give.
+use crate::Checkpoint;
+use crate::Job;
+use crate::Stage;
+use board::Check;
+use rule::Rule;
+ghost use mathlib.Core.Path.{_≡_};
+ghost use Prim.Native.Nat.{_≤_};
+ghost use Rattle.board.specs.Checks.{tableSize};
+ghost use Rattle.job.specs.Jobs.{ruleOf, unitsFit, rowsChosen, rowsFit, checkpointFits, stageFits, jobFits, numbersOf, stageOf};
+
+// The entries of the table, h × 4^w.
+pub fn table_size(w: usize, h: usize) -> usize
+    requires { ⌜ (w ≤ 10) × (h ≤ 60) ⌝ }
+    ensures { λ r. ⌜ (r ≡ tableSize w h) × (r ≤ 62914560) ⌝ }
+{
+    h << (2 * w)
+}
+
+// Whether the units fit the end mark.
+fn units_fit(w: usize, h: usize, units: usize, mark: usize) -> bool
+    requires { ⌜ (w ≤ 10) × (h ≤ 60) ⌝ }
+    ensures { λ r. ⌜ r ≡ unitsFit w h units mark ⌝ }
+{
+    let entries = table_size(w, h);
+    match mark {
+        0 => units < entries + h,
+        1 => units == entries + h,
+        2 => units == entries + 1,
+        _ => false,
+    }
+}
+
+// The rows chosen.
+fn rows_chosen(w: usize, h: usize, units: usize, mark: usize) -> usize
+    requires { ⌜ (w ≤ 10) × (h ≤ 60) ⌝ }
+    ensures { λ r. ⌜ r ≡ rowsChosen w h units mark ⌝ }
+{
+    if mark == 2 {
+        return 0;
+    }
+    let entries = table_size(w, h);
+    if units < entries { 0 } else { units - entries }
+}
+
+// Whether the rows and the live cells fit k rows chosen.
+fn rows_fit(w: usize, k: usize, above: usize, last: usize, live: usize) -> bool
+    requires { ⌜ (w ≤ 10) × (k ≤ 60) ⌝ }
+    ensures { λ r. ⌜ r ≡ rowsFit w k above last live ⌝ }
+{
+    if w * k < live {
+        return false;
+    }
+    if k == 0 {
+        if last != 0 {
+            return false;
+        }
+    }
+    if k < 2 { above == 0 } else { true }
+}
+
+// The rule of a paused job.
+pub fn rule_of(t: Checkpoint) -> Rule
+    ensures { λ r. ⌜ r ≡ ruleOf t ⌝ }
+{
+    Rule {
+        births: t.births,
+        survivals: t.survivals,
+    }
+}
+
+// Whether resuming takes the numbers.
+pub fn checkpoint_fits(t: Checkpoint) -> bool
+    ensures { λ r. ⌜ r ≡ checkpointFits t ⌝ }
+{
+    let w = t.width;
+    let h = t.height;
+    if let Check::Refused(_) = rule::check(rule_of(t), w, h) {
+        return false;
+    }
+    if t.above >> w != 0 {
+        return false;
+    }
+    if t.last >> w != 0 {
+        return false;
+    }
+    if !units_fit(w, h, t.units, t.mark) {
+        return false;
+    }
+    let k = rows_chosen(w, h, t.units, t.mark);
+    rows_fit(w, k, t.above, t.last, t.live)
+}
+
+// Whether a running job fills while its units are below h × 4^w, and chooses from there on.
+fn stage_fits(w: usize, h: usize, units: usize, stage: Stage) -> bool
+    requires { ⌜ (w ≤ 10) × (h ≤ 60) ⌝ }
+    ensures { λ r. ⌜ r ≡ stageFits w h units stage ⌝ }
+{
+    let entries = table_size(w, h);
+    match stage {
+        Stage::Filling => units < entries,
+        Stage::Choosing {
+            above: _,
+            last: _,
+            live: _,
+        } => entries <= units,
+        Stage::Finished {
+            above: _,
+            last: _,
+            score: _,
+        } => true,
+        Stage::Infeasible => true,
+    }
+}
+
+// Whether pausing and working take the job.
+pub fn job_fits(job: Job) -> bool
+    ensures { λ r. ⌜ r ≡ jobFits job ⌝ }
+{
+    if !checkpoint_fits(numbers_of(job)) {
+        return false;
+    }
+    let stage = job.stage;
+    stage_fits(job.width, job.height, job.units, stage)
+}
+
+// The nine numbers of a job.
+pub fn numbers_of(job: Job) -> Checkpoint
+    ensures { λ r. ⌜ r ≡ numbersOf job ⌝ }
+{
+    let births = job.rule.births;
+    let survivals = job.rule.survivals;
+    let width = job.width;
+    let height = job.height;
+    let units = job.units;
+    let stage = job.stage;
+    match stage {
+        Stage::Filling => Checkpoint {
+            width,
+            height,
+            units,
+            above: 0,
+            last: 0,
+            live: 0,
+            mark: 0,
+            births,
+            survivals,
+        },
+        Stage::Choosing { above, last, live } => Checkpoint {
+            width,
+            height,
+            units,
+            above,
+            last,
+            live,
+            mark: 0,
+            births,
+            survivals,
+        },
+        Stage::Finished { above, last, score } => Checkpoint {
+            width,
+            height,
+            units,
+            above,
+            last,
+            live: score,
+            mark: 1,
+            births,
+            survivals,
+        },
+        Stage::Infeasible => Checkpoint {
+            width,
+            height,
+            units,
+            above: 0,
+            last: 0,
+            live: 0,
+            mark: 2,
+            births,
+            survivals,
+        },
+    }
+}
+
+// The stage that numbers give.
+pub fn stage_of(t: Checkpoint) -> Stage
+    requires { ⌜ (t .width ≤ 10) × (t .height ≤ 60) ⌝ }
+    ensures { λ r. ⌜ r ≡ stageOf t ⌝ }
+{
+    let mark = t.mark;
+    match mark {
+        1 => Stage::Finished {
+            above: t.above,
+            last: t.last,
+            score: t.live,
+        },
+        2 => Stage::Infeasible,
+        _ => {
+            if t.units < table_size(t.width, t.height) {
+                Stage::Filling
+            } else {
+                Stage::Choosing {
+                    above: t.above,
+                    last: t.last,
+                    live: t.live,
+                }
+            }
+        }
+    }
+}

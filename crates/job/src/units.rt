@@ -1,0 +1,95 @@
+// The job after a unit, by what the unit has done.
+use crate::Job;
+use crate::Stage;
+use crate::numbers;
+ghost use mathlib.Core.Path.{_≡_};
+ghost use Prim.Native.Nat.{_+_, _≤_, _<_};
+ghost use Rattle.board.specs.Checks.{tableSize};
+ghost use Rattle.job.specs.Jobs.{afterEntry, rowDone, noneDone};
+
+// After an entry.
+pub fn after_entry(job: Job) -> Job
+    requires { ⌜ (job .width ≤ 10) × (job .height ≤ 60) × (job .units < tableSize (job .width) (job .height)) ⌝ }
+    ensures { λ r. ⌜ r ≡ afterEntry (job .rule) (job .width) (job .height) (job .units) ⌝ }
+{
+    let rule = job.rule;
+    let width = job.width;
+    let height = job.height;
+    let entries = numbers::table_size(width, height);
+    let units = job.units + 1; // one entry
+    let stage = if units < entries {
+        Stage::Filling
+    } else {
+        Stage::Choosing {
+            above: 0,
+            last: 0,
+            live: 0,
+        }
+    };
+    Job {
+        rule,
+        width,
+        height,
+        units,
+        stage,
+    }
+}
+
+// After a row below `last`, with the live cells so far.
+pub fn after_row(job: Job, last: usize, live: usize, row: usize, worth: usize) -> Job
+    requires { ⌜ (job .width ≤ 10) × (job .height ≤ 60) × (live ≤ 600) ⌝ }
+    requires { ⌜ (tableSize (job .width) (job .height) ≤ job .units) × (job .units < tableSize (job .width) (job .height) + job .height) ⌝ }
+    ensures { λ r. ⌜ r ≡ rowDone job last live row worth ⌝ }
+{
+    let width = job.width;
+    if row >> width != 0 {
+        return job;
+    }
+    if width < worth {
+        return job;
+    }
+    let rule = job.rule;
+    let height = job.height;
+    let rows = job.units - numbers::table_size(width, height);
+    let n = live + worth;
+    let stage = if rows + 1 < height {
+        Stage::Choosing {
+            above: last,
+            last: row,
+            live: n,
+        }
+    } else {
+        Stage::Finished {
+            above: last,
+            last: row,
+            score: n,
+        }
+    };
+    Job {
+        rule,
+        width,
+        height,
+        units: job.units + 1, // one row
+        stage,
+    }
+}
+
+// Where no row can be chosen.
+pub fn after_none(job: Job) -> Job
+    requires { ⌜ (job .width ≤ 10) × (job .height ≤ 60) ⌝ }
+    ensures { λ r. ⌜ r ≡ noneDone job ⌝ }
+{
+    let width = job.width;
+    let height = job.height;
+    if job.units != numbers::table_size(width, height) {
+        return job;
+    }
+    let rule = job.rule;
+    Job {
+        rule,
+        width,
+        height,
+        units: job.units + 1, // spent, with nothing written
+        stage: Stage::Infeasible,
+    }
+}
