@@ -5,8 +5,6 @@ use mathlib.Core.Path.{_≡_, refl, _∙_, subst}
 use mathlib.Core.Bool.{Bool, true, false, cond}
 use mathlib.Core.List.{List}
 use Prim.Native.Nat.{ℕ, _+_, _*_, _-_, _≤_, _<_}
-use native.Mathlib.Nat.{mul-le-mul}
-use native.Mathlib.Omega.{arith}
 use lib.Dec.{eqb}
 use lib.ListN.{length, length-set}
 use Rattle.elimination.specs.Candidates.{Choice, nothing, chosen}
@@ -21,6 +19,7 @@ use Rattle.score_table.specs.Inner.{Memory}
 use Rattle.job.specs.declared.Stage.{Stage}
 use Rattle.job.specs.declared.Job.{Job}
 use Rattle.job.proofs.Fits.{Choosing, jobAt, fits-at}
+use Rattle.job.proofs.Next.{fits-filling, fits-choosing}
 use Rattle.solver.proofs.Writing.{written-length}
 use Rattle.solver.proofs.Machine.{Steps, unit-law, here-fits}
 
@@ -88,8 +87,8 @@ lent-memory {j} L =
     record { narrow = T .frame .size .narrow; low = T .frame .size .low; marks = L .marks; entries = L .entries }
 
 pub lent-early : {j : Job} {g t β : List ℕ} → Lent j g t β → j .stage ≡ Stage.Filling → j .units < tableSize (j .width) (j .height)
-lent-early {j} L e = rw e at (fits-at j (L .taken) .stage)
+lent-early {j} L e = fits-filling j (L .taken) e
 
--- where a row is to be chosen, which one, and below which
+-- where a row is to be chosen
 pub chooses-at : {j : Job} {above last : ℕ} {g t β : List ℕ} (C : Chooses j above last g t β) → Choosing (j .width) (j .height) (j .units) above last (C .live)
-chooses-at {j} C = rw (C .stage) at (fits-at j (C .lent .taken) .stage)
+chooses-at {j} C = fits-choosing j (C .lent .taken) (C .stage)

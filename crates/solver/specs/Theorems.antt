@@ -1,6 +1,6 @@
 -- What is proved of the rules over the rows of a grid: an ending is a solution, the rows that are chosen are the wanted board, an entry is what
--- document 01, "The score table", says it is, and the wanted board is the best by all live cells too. The third demand and the round trip are
--- stated in `Demand` and `Calls`.
+-- document 01, "The score table", says it is, and the wanted board is the best by all live cells too. The third demand is
+-- stated in `Demand`, and the round trip in `Calls` of `job`.
 -- Assumes nothing.
 use mathlib.Core.Path.{_≡_}
 use mathlib.Core.Bool.{cond}

@@ -1,0 +1,58 @@
+// Openings.
+use job::Opened;
+use rule::Rule;
+
+pub fn sizes() {
+    open_sized(b"open, width 0, height 61, 3 givens", 8, 0, 61);
+    open_sized(b"open, width 11, height 0, 3 givens", 8, 11, 0);
+    open_sized(b"open, height 0, 3 givens", 8, 2, 0);
+    open_sized(b"open, height 61, 3 givens", 8, 2, 61);
+    open_sized(b"open, height 0, births 9, 3 givens", 9, 2, 0);
+    open_sized(b"open, births 9, givens 0, 3, 0 of 4", 9, 2, 2);
+}
+
+pub fn givens() {
+    open_given(b"open, givens 0, 3, 0 of 4", &[0, 3, 0]);
+    open_given(b"open, givens 0, 3, 0, 0, 0 of 4", &[0, 3, 0, 0, 0]);
+    open_given(b"open, givens 0, 1, 3, 4", &[0, 1, 3, 4]);
+    open_given(b"open, givens 0, 1, 2, 0", &[0, 1, 2, 0]);
+}
+
+// Openings of the largest grid, and of larger ones.
+pub fn largest() {
+    open(b"open, 10 by 60", rule::conway(), 10, 60, &[0; 600]);
+    open(b"open, 11 by 60", rule::conway(), 11, 60, &[0; 660]);
+    open(b"open, 10 by 61", rule::conway(), 10, 61, &[0; 610]);
+}
+
+// Openings under other rules.
+pub fn rules() {
+    open_ruled(b"open, births 1", 1, 12);
+    open_ruled(b"open, births 512", 512, 12);
+    open_ruled(b"open, survivals 512", 8, 512);
+    open_ruled(b"open, births 510, survivals 511", 510, 511);
+}
+
+fn open_sized(name: &[u8], births: usize, w: usize, h: usize) {
+    let rule = Rule {
+        births,
+        survivals: 12,
+    };
+    open(name, rule, w, h, &[0, 3, 0]);
+}
+
+fn open_given(name: &[u8], givens: &[u8]) {
+    open(name, rule::conway(), 2, 2, givens);
+}
+
+fn open_ruled(name: &[u8], births: usize, survivals: usize) {
+    open(name, Rule { births, survivals }, 2, 2, &[0; 4]);
+}
+
+fn open(name: &[u8], rule: Rule, w: usize, h: usize, givens: &[u8]) {
+    report::text(name);
+    match job::open(rule, w, h, givens) {
+        Opened::Ready(job) => report::line(b": a job at unit ", job.units),
+        Opened::Refused(r) => report::refusal(r),
+    }
+}
