@@ -8,7 +8,12 @@ pub mod Endings
 pub mod Sums
 pub mod Table
 pub mod Filling
+pub mod Places
 pub mod Machine
 pub mod Job
 pub mod Completion
 pub mod FillThenChoose
+pub mod Whole
+pub mod TwoLayers
+pub mod Shape
+pub mod Progress

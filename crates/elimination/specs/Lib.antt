@@ -11,5 +11,9 @@ pub mod Filling
 pub mod Machine
 pub mod Job
 pub mod Plan
+pub mod Places
 pub mod Completion
 pub mod FillThenChoose
+pub mod TwoLayers
+pub mod Shape
+pub mod Progress

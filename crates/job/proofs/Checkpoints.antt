@@ -1,13 +1,13 @@
 -- What the tests of nine numbers show one after the other, and that the job of nine numbers that fit has those numbers.
 -- Assumes nothing.
-use mathlib.Core.Path.{_≡_, refl}
+use mathlib.Core.Path.{_≡_, refl, _∙_, ap}
 use mathlib.Core.Bool.{Bool, true, false, _&&_}
 use mathlib.Core.List.{List}
 use Prim.Native.Nat.{ℕ, _+_, _*_, _-_, _/_, _^_, _≤_, _<_}
 use native.Mathlib.Nat.{div-eq-of-lt, lt-div-mul-add}
 use native.Mathlib.Omega.{arith}
 use native.Mathlib.Decide.{decLt}
-use borrow.Author.Tests.{ltb-true}
+use borrow.Author.Tests.{ltb-true, ltb-false, le-leb}
 use lib.Dec.{ltb}
 use lib.Pow.{pow-pos}
 use Rattle.board.specs.Answers.{refuses, refuseUnless, _then_}
@@ -17,9 +17,9 @@ use Rattle.board.proofs.Tests.{among-yes}
 use Rattle.rule.specs.Rule.{ruleFits, ruleCheck, gridCheck}
 use Rattle.rule.specs.declared.Rule.{Rule}
 use Rattle.rule.proofs.Rules.{allowed-fits}
-use Rattle.job.specs.Jobs.{unitsFit, rowsChosen, checkpointFits, stageOf, jobOf, jobSays, checkpointSays}
+use Rattle.job.specs.Jobs.{unitsFit, rowsChosen, checkpointFits, numbersOf, stageFits, jobFits, stageOf, jobOf, jobSays, checkpointSays}
 use Rattle.job.specs.declared.Checkpoint.{Checkpoint}
-use Rattle.job.proofs.Fits.{Frame, RowsFit, UnitsFit, runs, ends, fails, units-at, numbers-at}
+use Rattle.job.proofs.Fits.{Frame, RowsFit, UnitsFit, runs, ends, fails, units-at, numbers-at, and-true, heard}
 
 -- ---- the size and the rule
 pub frame-fits : {rule : Rule} {w h : ℕ} → Frame rule w h → among 10 w && among 60 h && ruleFits rule ≡ true
@@ -81,3 +81,20 @@ numbers-back t e = go (t .mark) (numbers-at t e .units) refl
     go mark (runs l) m = filling m (ltb (t .units) (tableSize (t .width) (t .height))) refl
     go mark (ends q) m = rw m
     go mark (fails q) m = let n = no-rows (numbers-at t e .rows) (rw m) in rw (m, n .over, n .below, n .few)
+
+pub numbers-of-job : (t : Checkpoint) → checkpointFits t ≡ true → numbersOf (jobOf t) ≡ t
+numbers-of-job t e = ap heard (numbers-back t e)
+
+-- and it fits
+pub resumed-fits : (t : Checkpoint) → checkpointFits t ≡ true → jobFits (jobOf t) ≡ true
+unfolding jobFits stageOf
+resumed-fits t e = and-true (ap checkpointFits (numbers-of-job t e) ∙ e) (go (t .mark) (numbers-at t e .units) refl)
+  where
+    running : t .mark ≡ 0 → (b : Bool) → ltb (t .units) (tableSize (t .width) (t .height)) ≡ b → stageFits (t .width) (t .height) (t .units) (jobOf t .stage) ≡ true
+    running m true r = rw (m, r) r
+    running m false r = rw (m, r) (le-leb (tableSize (t .width) (t .height)) (t .units) (ltb-false (t .units) (tableSize (t .width) (t .height)) r))
+
+    go : (mark : ℕ) → UnitsFit (t .width) (t .height) (t .units) mark → t .mark ≡ mark → stageFits (t .width) (t .height) (t .units) (jobOf t .stage) ≡ true
+    go mark (runs l) m = running m (ltb (t .units) (tableSize (t .width) (t .height))) refl
+    go mark (ends q) m = rw m
+    go mark (fails q) m = rw m

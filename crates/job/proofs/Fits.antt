@@ -231,7 +231,7 @@ unfolding pauseRule resumeRule
 pausable j e = record { taken = e; pauses = rw e; resumes = rw (fits-numbers j e); back = job-back j e }
 
 -- the nine numbers of what is said
-abbrev heard : List ℕ → Checkpoint
+abbrev pub heard : List ℕ → Checkpoint
 heard l = record {
   width = getD l 0 0;
   height = getD l 1 0;

@@ -6,6 +6,8 @@ use Rattle.board.specs.Sums.{total}
 use Rattle.board.specs.Checks.{sizeCheck, cellsCheck, givensCheck, tableSize}
 use Rattle.elimination.specs.Candidates.{scan}
 use Rattle.elimination.specs.Kind.{choose, entry}
+use Rattle.elimination.specs.Table.{reads, fillEntry}
+use Rattle.elimination.specs.FillThenChoose.{plan}
 use Rattle.rule.specs.Rule.{ruleCheck, gridCheck, nextUnder, conway}
 use Rattle.life.specs.Plane.{onPlane, around}
 use Rattle.life.specs.Rows.{cellOf, becomes, stepsTo}
@@ -14,15 +16,15 @@ use Rattle.plaintext.specs.Lines.{linesOf}
 use Rattle.plaintext.specs.Reading as Reading
 use Rattle.score_table.specs.Rows.{markKept, rowKept, cellWorth, rowWorth}
 use Rattle.solver.specs.Rows.{written}
-use Rattle.score_table.specs.ScoreTable.{placeOf, unitPlace, unitEntry, rowChoice}
-use Rattle.job.specs.Jobs.{unitsFit, rowsChosen, rowsFit, checkpointFits, jobFits}
-use Rattle.solver.specs.Working.{workCheck}
+use Rattle.job.specs.Jobs.{unitsFit, rowsChosen, rowsFit, checkpointFits, jobFits, stageOf}
+use Rattle.service.specs.Units.{unitBy}
+use Rattle.service.specs.Service.{workCheck, worksOn, workOf}
+use Rattle.solver.specs.Working.{lentCheck}
 use Rattle.solver.specs.Units.{unitOf}
-use Rattle.solver.specs.Calls.{worksOn, workOf}
 use Rattle.known.specs.Known.{solved, Known}
 
 pub known : Known
-unfolding firstNot allBelow total sizeCheck cellsCheck givensCheck scan choose entry ruleCheck gridCheck nextUnder conway onPlane around cellOf becomes stepsTo nextAt keepsAt lifeCheck judged judgeRule linesOf Reading.judge Reading.judgeLines Reading.judged Reading.firstBad Reading.rowsOf Reading.widthOf Reading.sizeRule Reading.readRule markKept rowKept cellWorth rowWorth written placeOf tableSize unitsFit rowsChosen rowsFit checkpointFits jobFits workCheck unitPlace unitEntry rowChoice unitOf worksOn workOf solved
+unfolding firstNot allBelow total sizeCheck cellsCheck givensCheck scan choose entry ruleCheck gridCheck nextUnder conway onPlane around cellOf becomes stepsTo nextAt keepsAt lifeCheck judged judgeRule linesOf Reading.judge Reading.judgeLines Reading.judged Reading.firstBad Reading.rowsOf Reading.widthOf Reading.sizeRule Reading.readRule markKept rowKept cellWorth rowWorth written tableSize unitsFit rowsChosen rowsFit checkpointFits jobFits stageOf workCheck lentCheck reads fillEntry plan unitBy unitOf worksOn workOf solved
 known = record {
   m1 = refl;
   m2 = refl;

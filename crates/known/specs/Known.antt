@@ -11,8 +11,8 @@ use Rattle.writer.specs.Letters.{LF, bigO}
 use Rattle.plaintext.specs.Reading.{readRule}
 use Rattle.board.specs.Checks.{tableSize}
 use Rattle.job.specs.Jobs.{start}
-use Rattle.solver.specs.Working.{finished, infeasible}
-use Rattle.solver.specs.Calls.{workOf}
+use Rattle.service.specs.Service.{finished, infeasible, workOf}
+use Rattle.solver.specs.Units.{grid}
 
 -- what a whole job comes to: its answer, the units done, and the board
 pub record Ending : Type 0 where
@@ -23,7 +23,7 @@ pub record Ending : Type 0 where
 -- one working call with more allowance than the job has units, over a table of 7s and a board of 9s
 unfoldable pub solved : ℕ → ℕ → List ℕ → Ending
 solved w h givens =
-    let r = workOf (start conwayRule w h) givens (replicate (tableSize w h) 7) (replicate (w * h) 9) 200 in
+    let r = workOf grid (start conwayRule w h) givens (replicate (tableSize w h) 7) (replicate (w * h) 9) 200 in
     record { answer = r .answer; units = r .state .job .units; board = r .state .board }
 
 pub record Known : Type 0 where

@@ -4,27 +4,27 @@ use mathlib.Core.Path.{_≡_, refl}
 use mathlib.Core.List.{List, [], _∷_, _++_}
 use Prim.Native.Nat.{_+_}
 use native.Mathlib.Omega.{arith}
-use Rattle.solver.specs.Units.{State}
-use Rattle.solver.specs.Demand.{Call, afterCall, run, Each, allowed, summed}
+use Rattle.service.specs.Service.{State, Service}
+use Rattle.service.specs.Demand.{Call, afterCall, run, Each, allowed, summed}
 
-module _ (c : Call) where
-  pub run-append : (cs : List Call) (s : State) → run (cs ++ (c ∷ [])) s ≡ afterCall c (run cs s)
+module _ (S : Service) (c : Call S) where
+  pub run-append : (cs : List (Call S)) (s : State (S .Table)) → run S (cs ++ (c ∷ [])) s ≡ afterCall S c (run S cs s)
   unfolding run
   run-append [] s = refl
-  run-append (d ∷ cs) s = run-append cs (afterCall d s)
+  run-append (d ∷ cs) s = run-append cs (afterCall S d s)
 
-  pub summed-append : (cs : List Call) (s : State) → summed (cs ++ (c ∷ [])) s ≡ summed cs s + allowed c (run cs s)
+  pub summed-append : (cs : List (Call S)) (s : State (S .Table)) → summed S (cs ++ (c ∷ [])) s ≡ summed S cs s + allowed S c (run S cs s)
   unfolding run summed
   summed-append [] s = omega arith
-  summed-append (d ∷ cs) s = omega (arith, summed-append cs (afterCall d s))
+  summed-append (d ∷ cs) s = omega (arith, summed-append cs (afterCall S d s))
 
-  module _ (P : Call → State → Type 0) where
-    pub each-append : (cs : List Call) (s : State) → Each P cs s → P c (run cs s) → Each P (cs ++ (c ∷ [])) s
+  module _ (P : Call S → State (S .Table) → Type 0) where
+    pub each-append : (cs : List (Call S)) (s : State (S .Table)) → Each S P cs s → P c (run S cs s) → Each S P (cs ++ (c ∷ [])) s
     unfolding run
     each-append [] s f p = (p, tt)
-    each-append (d ∷ cs) s f p = (f .0, each-append cs (afterCall d s) (f .1) p)
+    each-append (d ∷ cs) s f p = (f .0, each-append cs (afterCall S d s) (f .1) p)
 
-    pub each-last : (cs : List Call) (s : State) → Each P (cs ++ (c ∷ [])) s → P c (run cs s)
+    pub each-last : (cs : List (Call S)) (s : State (S .Table)) → Each S P (cs ++ (c ∷ [])) s → P c (run S cs s)
     unfolding run
     each-last [] s f = f .0
-    each-last (d ∷ cs) s f = each-last cs (afterCall d s) (f .1)
+    each-last (d ∷ cs) s f = each-last cs (afterCall S d s) (f .1)

@@ -14,17 +14,17 @@ use Rattle.rule.specs.declared.Rule.{Rule}
 use Rattle.rule.proofs.Rules.{grid-passes}
 use Rattle.board.specs.Checks.{tableSize}
 use Rattle.job.specs.Jobs.{start, openRule}
-use Rattle.solver.specs.Working.{workCheck}
-use Rattle.solver.specs.Units.{State, Step, next, spoiled, unitOf}
+use Rattle.service.specs.Service.{next, spoiled, onStep, worksOn, workCheck}
+use Rattle.solver.specs.Working.{lentCheck}
+use Rattle.solver.specs.Units.{State, Step, unitOf, grid}
 use Rattle.job.specs.Calls.{Opens}
-use Rattle.solver.specs.Calls.{onStep, worksOn}
 use Rattle.solver.specs.Inner.{Lent}
 use Rattle.job.specs.declared.Stage.{Stage}
 use Rattle.job.specs.declared.Job.{Job}
 use Rattle.job.specs.declared.Opened.{Opened}
 use Rattle.job.proofs.Fits.{fits-of}
 use Rattle.solver.proofs.UnitLaws.{unit-fits, unit-lent}
-use Rattle.solver.proofs.Serving.{table-pos}
+use Rattle.solver.proofs.Progress.{table-pos}
 use Rattle.runner.specs.Solving.{memoryCheck}
 
 -- ---- an opened job
@@ -33,13 +33,13 @@ module _ {rule : Rule} (allowed : Allowed rule) {w h : ℕ} {g : List ℕ} (G : 
   unfolding openRule
   start-opens = record { says = rw (grid-passes rule (G .size) allowed, marks-pass (G .bytes)); job = λ j e. cc }
 
-  pub start-check : (t β : List ℕ) → workCheck (start rule w h) g t β ≡ memoryCheck w h t β
-  unfolding workCheck memoryCheck
+  pub start-check : (t β : List ℕ) → workCheck grid (start rule w h) g t β ≡ memoryCheck w h t β
+  unfolding workCheck lentCheck memoryCheck
   start-check t β = rw (fits-of rule w h 0 Stage.Filling (record { size = G .size; allowed = allowed }) (table-pos (G .size)), marks-pass (G .bytes))
 
 -- ---- a call that passes
-pub check-passes : (j : Job) (g t β : List ℕ) → Bytes 2 (j .width) (j .height) g → Lent j g t β → workCheck j g t β ≡ passed
-unfolding workCheck
+pub check-passes : (j : Job) (g t β : List ℕ) → Bytes 2 (j .width) (j .height) g → Lent j g t β → workCheck grid j g t β ≡ passed
+unfolding workCheck lentCheck
 check-passes j g t β b L =
     rw (L .taken, marks-pass b, eq-eqb (length β) (j .width * j .height) (L .cells), le-leb (tableSize (j .width) (j .height)) (length t) (L .entries))
 
@@ -50,13 +50,13 @@ pub record Kept (g : List ℕ) (s s′ : State) : Type 0 where
   pub lent : Lent (s′ .job) g (s′ .table) (s′ .board)
 
 module _ (g : List ℕ) where
-  pub works-kept : (n : ℕ) (s : State) → Lent (s .job) g (s .table) (s .board) → Kept g s (worksOn g n s .state)
+  pub works-kept : (n : ℕ) (s : State) → Lent (s .job) g (s .table) (s .board) → Kept g s (worksOn grid g n s .state)
   unfolding worksOn
   works-kept zero s L = record { width = refl; height = refl; lent = L }
   works-kept (suc n) s L = go (unitOf g s) refl (works-kept n)
     where
-      go : (o : Step) → unitOf g s ≡ o → ((s′ : State) → Lent (s′ .job) g (s′ .table) (s′ .board) → Kept g s′ (worksOn g n s′ .state))
-          → Kept g s (onStep o s (worksOn g n) .state)
+      go : (o : Step) → unitOf g s ≡ o → ((s′ : State) → Lent (s′ .job) g (s′ .table) (s′ .board) → Kept g s′ (worksOn grid g n s′ .state))
+          → Kept g s (onStep o s (worksOn grid g n) .state)
       go (next s′) e ih =
           let F = unit-fits g s s′ (L .taken) e in
           let K = ih s′ (unit-lent g s s′ L e) in

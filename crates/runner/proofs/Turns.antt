@@ -15,15 +15,18 @@ use Rattle.rule.specs.declared.Rule.{Rule}
 use Rattle.solver.specs.Grid.{score}
 use Rattle.board.specs.Checks.{tableSize}
 use Rattle.job.specs.Jobs.{boardLength, noneLength, start}
-use Rattle.solver.specs.Working.{workCheck, unfinished, finished, infeasible}
-use Rattle.solver.specs.Units.{State}
-use Rattle.solver.specs.Calls.{Result, workOf}
+use Rattle.service.specs.Service.{workCheck, workOf, unfinished, finished, infeasible}
+use Rattle.service.specs.Laws.{Checked}
+use Rattle.solver.specs.Units.{State, grid}
+use Rattle.solver.specs.Calls.{Result}
 use Rattle.solver.specs.Inner.{lentState}
-use Rattle.solver.specs.Demand.{Call, work, afterWork, afterCall, run, Each, Fair, counted, allowed, summed, Answers, Filled, Served, Outcome, solved, unsolvable, ThirdDemand}
+use Rattle.service.specs.Demand.{Call, work, afterWork, afterCall, run, Each, Fair, counted, allowed, summed, Answers, Served, Outcome, solved, unsolvable}
+use Rattle.service.specs.JobKinds.{aimOf}
+use Rattle.solver.specs.Demand.{Filled, gridKind, ThirdDemand}
 use Rattle.job.specs.declared.Job.{Job}
 use Rattle.job.specs.declared.Opened.{Opened}
-use Rattle.solver.proofs.CheckLaws.{Checked, work-checked, lent-of}
-use Rattle.solver.proofs.Serving.{table-pos}
+use Rattle.solver.proofs.CheckLaws.{work-checked, lent-of}
+use Rattle.solver.proofs.Progress.{table-pos}
 use Rattle.solver.proofs.Third.{third-demand}
 use Rattle.runner.specs.Solving.{memoryCheck, solvedSays, Ends, best, none, Comes, Ready, Runs}
 use Rattle.runner.specs.declared.Solved.{Solved}
@@ -37,15 +40,15 @@ opened rule w h t β = lentState (start rule w h) t β
 
 -- what the checks of a working call over a state say
 abbrev pub checkIn : List ℕ → State → Answer
-checkIn g s = workCheck (s .job) g (s .table) (s .board)
+checkIn g s = workCheck grid (s .job) g (s .table) (s .board)
 
 -- A list of calls that comes to a state in which the job is unfinished. The state passes the checks as the opened job does; memory that they
 -- turn away is as it was.
 pub record Going (rule : Rule) (w h : ℕ) (g t₀ β₀ : List ℕ) (s : State) : Type 0 where
-  pub calls : List Call
-  pub fair : Each (Fair g) calls (opened rule w h t₀ β₀)
-  pub comes : run calls (opened rule w h t₀ β₀) ≡ s
-  pub sum : summed calls (opened rule w h t₀ β₀) ≡ s .job .units
+  pub calls : List (Call grid)
+  pub fair : Each grid (Fair grid g) calls (opened rule w h t₀ β₀)
+  pub comes : run grid calls (opened rule w h t₀ β₀) ≡ s
+  pub sum : summed grid calls (opened rule w h t₀ β₀) ≡ s .job .units
   pub below : s .job .units < boardLength w h
   pub width : s .job .width ≡ w
   pub height : s .job .height ≡ h
@@ -54,11 +57,11 @@ pub record Going (rule : Rule) (w h : ℕ) (g t₀ β₀ : List ℕ) (s : State)
 
 -- ---- one call more
 -- the turn's call, and what it answers and leaves
-abbrev lends : List ℕ → ℕ → State → Call
+abbrev lends : List ℕ → ℕ → State → Call grid
 lends g allowance s = work g (s .table) (s .board) allowance
 
 abbrev pub turn : List ℕ → ℕ → State → Result
-turn g allowance s = workOf (s .job) g (s .table) (s .board) allowance
+turn g allowance s = workOf grid (s .job) g (s .table) (s .board) allowance
 
 -- what a turn comes to where the checks pass, by the job's length, its last answer and its last board
 record Turned (rule : Rule) (w h : ℕ) (g t₀ β₀ : List ℕ) (n : ℕ) (s : State) (r : Result) : Type 0 where
@@ -144,28 +147,28 @@ module _ {rule : Rule} (permitted : Allowed rule) {w h : ℕ} {g : List ℕ} (G 
 
   -- the list with the turn's call at its end
   module _ (n : ℕ) (s : State) (P : Going rule w h g t₀ β₀ s) where
-    abbrev longer : List Call
+    abbrev longer : List (Call grid)
     longer = P .calls ++ (lends g n s ∷ [])
 
-    longer-fair : Each (Fair g) longer s₀
+    longer-fair : Each grid (Fair grid g) longer s₀
     longer-fair =
-        each-append (lends g n s) (Fair g) (P .calls) s₀ (P .fair)
-        (subst (Fair g (lends g n s)) (sym (P .comes)) (λ e. (refl, refl, refl)))
+        each-append grid (lends g n s) (Fair grid g) (P .calls) s₀ (P .fair)
+        (subst (Fair grid g (lends g n s)) (sym (P .comes)) (λ e. (refl, refl, refl)))
 
     module _ (p : checkIn g s ≡ passed) where
-      longer-comes : run longer s₀ ≡ turn g n s .state
-      longer-comes = run-append (lends g n s) (P .calls) s₀ ∙ ap (afterCall (lends g n s)) (P .comes) ∙ ap (λ (a : Answer). afterWork a (turn g n s .state) s) p
+      longer-comes : run grid longer s₀ ≡ turn g n s .state
+      longer-comes = run-append grid (lends g n s) (P .calls) s₀ ∙ ap (afterCall grid (lends g n s)) (P .comes) ∙ ap (λ (a : Answer). afterWork a (turn g n s .state) s) p
 
-      longer-sum : summed longer s₀ ≡ s .job .units + n
+      longer-sum : summed grid longer s₀ ≡ s .job .units + n
       longer-sum =
-          summed-append (lends g n s) (P .calls) s₀
-          ∙ ap₂ (λ (x y : ℕ). x + y) (P .sum) (ap (allowed (lends g n s)) (P .comes) ∙ ap (λ (a : Answer). counted a n) p)
+          summed-append grid (lends g n s) (P .calls) s₀
+          ∙ ap₂ (λ (x y : ℕ). x + y) (P .sum) (ap (allowed grid (lends g n s)) (P .comes) ∙ ap (λ (a : Answer). counted a n) p)
 
       served-turns : (long : ℕ) (final : Answer) (wanted : List ℕ) → tableSize w h ≤ long → long ≤ boardLength w h → (final ≡ unfinished → ⊥)
           → ((says : Answer) (β : List ℕ) → says ≡ final → β ≡ wanted → Ends rule w h g β₀ says β)
-          → Served rule w h g long final wanted longer s₀ → Turned rule w h g t₀ β₀ n s (turn g n s)
+          → Served grid (aimOf (gridKind rule w h g)) long final wanted longer s₀ → Turned rule w h g t₀ β₀ n s (turn g n s)
       served-turns long final wanted whole most last ends S =
-          let A = subst (Answers long final (lends g n s)) (P .comes) (each-last (lends g n s) (Answers long final) (P .calls) s₀ (S .answers)) in record {
+          let A = subst (Answers grid long final (lends g n s)) (P .comes) (each-last grid (lends g n s) (Answers grid long final) (P .calls) s₀ (S .answers)) in record {
             long = long;
             final = final;
             wanted = wanted;
@@ -184,10 +187,10 @@ module _ {rule : Rule} (permitted : Allowed rule) {w h : ℕ} {g : List ℕ} (G 
       unfolding ThirdDemand tableSize
       turns = go (third-demand rule w h g t₀ β₀ (Opened.Ready (start rule w h)) (start rule w h) (start-opens permitted G) refl longer longer-fair)
         where
-          go : Outcome rule w h g longer s₀ → Turned rule w h g t₀ β₀ n s (turn g n s)
-          go (solved board O S) =
-              served-turns (boardLength w h) (finished (score w h g board)) board (omega arith) (omega arith) (λ e. let z : _≡_ {A = ℕ} 0 1 = cc in omega arith)
-              (λ says β e q. best (rw q O) (e ∙ ap (λ (b : List ℕ). finished (score w h g b)) (sym q))) S
+          go : Outcome grid (aimOf (gridKind rule w h g)) longer s₀ → Turned rule w h g t₀ β₀ n s (turn g n s)
+          go (solved board final O S) =
+              served-turns (boardLength w h) final board (omega arith) (omega arith) (λ e. let z : _≡_ {A = ℕ} 0 1 = cc in omega arith)
+              (λ says β e q. best (rw q (O .wanted)) (e ∙ O .says ∙ ap (λ (b : List ℕ). finished (score w h g b)) (sym q))) S
           go (unsolvable f S) =
               served-turns (noneLength w h) infeasible β₀ (omega arith) (omega (arith, G .size .some-row)) (λ e. let z : _≡_ {A = ℕ} 0 1 = cc in omega arith)
               (λ says β e q. none f e q) S

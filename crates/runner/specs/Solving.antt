@@ -10,7 +10,7 @@ use Rattle.rule.specs.Rule.{Allowed, gridCheck}
 use Rattle.rule.specs.declared.Rule.{Rule}
 use Rattle.solver.specs.Grid.{Solution, Optimal, score}
 use Rattle.job.specs.Jobs.{start}
-use Rattle.solver.specs.Working.{finished, infeasible}
+use Rattle.service.specs.Service.{finished, infeasible}
 use Rattle.solver.specs.Demand.{Filled}
 use Rattle.job.specs.declared.Job.{Job}
 use Rattle.runner.specs.declared.Solved.{Solved}

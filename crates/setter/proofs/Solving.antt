@@ -14,7 +14,7 @@ use Rattle.board.specs.Checks.{givensCheck, lengthCheck, tableSize, tableCheck}
 use Rattle.board.proofs.Answers.{refuses-none, then-gives, unless-gives}
 use Rattle.rule.specs.Rule.{conwayRule, gridCheck}
 use Rattle.writer.specs.Writing.{textLength, textOver}
-use Rattle.solver.specs.Working.{finished, infeasible}
+use Rattle.service.specs.Service.{finished, infeasible}
 use Rattle.runner.specs.Solving.{memoryCheck, solveCheck, solvedSays, Ends, best, none, Comes, Solves}
 use Rattle.runner.specs.declared.Solved as Solved
 use Rattle.setter.specs.Texts.{givenOf, SolvesCells}

@@ -10,7 +10,7 @@ use Rattle.board.specs.Answers.{Answer, gives, refuses, refusalSays, _then_, re
 use Rattle.rule.specs.Rule.{conwayRule}
 use Rattle.writer.specs.Writing.{textLength, textOver}
 use Rattle.plaintext.specs.Reading.{judged, rowsOf, widthOf, cellsOf, readRule}
-use Rattle.solver.specs.Working.{finished, infeasible}
+use Rattle.service.specs.Service.{finished, infeasible}
 use Rattle.runner.specs.Solving.{solveCheck, Comes}
 use Rattle.setter.specs.declared.Shown.{Shown}
 use Rattle.setter.specs.declared.Shown.the-variants.{Best, Infeasible, Refused}

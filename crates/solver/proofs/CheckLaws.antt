@@ -4,7 +4,7 @@ use mathlib.Core.Path.{_≡_, refl}
 use mathlib.Core.Bool.{Bool, true, false}
 use mathlib.Core.List.{List, []}
 use mathlib.Core.Option.{Option, none, some}
-use Prim.Native.Nat.{ℕ, _*_}
+use Prim.Native.Nat.{ℕ, _*_, _≤_}
 use native.Mathlib.Omega.{arith}
 use borrow.Author.Tests.{leb-true, eqb-true}
 use lib.Dec.{leb, eqb}
@@ -14,36 +14,23 @@ use Rattle.board.specs.Answers.{Answer, gives, refuses, _then_, refuseUnless, r
 use Rattle.board.specs.Checks.{givensCheck, lengthCheck, bytesCheck, atMost, tableSize, tableCheck}
 use Rattle.board.proofs.Answers.{refuses-none, then-gives, unless-gives}
 use Rattle.board.proofs.Checks.{marks-of}
-use Rattle.job.specs.Jobs.{jobFits, pauseRule}
-use Rattle.solver.specs.Working.{workCheck}
+use Rattle.job.specs.Jobs.{pauseRule}
+use Rattle.service.specs.Service.{workCheck}
+use Rattle.service.specs.Laws.{Checked, ChecksSound}
+use Rattle.service.proofs.Calls.{checked-then, checked-unless, work-passed}
+use Rattle.service.proofs.Calls as Shared
+use Rattle.solver.specs.Working.{lentCheck}
+use Rattle.solver.specs.Units.{grid}
 use Rattle.solver.specs.Inner.{Lent}
 use Rattle.job.specs.declared.Job.{Job}
-
--- nothing, or a refusal other than 9
-abbrev pub Checked : Answer → Type 0
-Checked (gives values) = values ≡ []
-Checked (refuses n values) = n ≡ 9 → ⊥
-
-checked-unless : (t : Bool) (n : ℕ) → (n ≡ 9 → ⊥) → Checked (refuseUnless t n)
-checked-unless true n f = refl
-checked-unless false n f = f
 
 checked-at : (o : Option ℕ) (n : ℕ) → (n ≡ 9 → ⊥) → Checked (refuseAt o n)
 checked-at none n f = refl
 checked-at (some i) n f = f
 
-checked-then : (a b : Answer) → Checked a → Checked b → Checked (a then b)
-checked-then (gives values) b p q = q
-checked-then (refuses n values) b p q = p
-
 -- a job that pausing turns away is turned away here, with the same refusal
-pub pause-refused : (j : Job) (g t β : List ℕ) {n : ℕ} {us : List ℕ} → refuses n us ≡ pauseRule j → refuses n us ≡ workCheck j g t β
-unfolding pauseRule workCheck
-pause-refused j g t β {n} {us} e = go (jobFits j) refl
-  where
-    go : (b : Bool) → jobFits j ≡ b → refuses n us ≡ workCheck j g t β
-    go true f = absurd (refuses-none (rw f at e))
-    go false f = rw f (rw f at e)
+pub pause-refused : (j : Job) (g t β : List ℕ) {n : ℕ} {us : List ℕ} → refuses n us ≡ pauseRule j → refuses n us ≡ workCheck grid j g t β
+pause-refused j g t β e = Shared.pause-refused grid j g t β e
 
 module _ (j : Job) (g t β : List ℕ) where
   abbrev entriesCheck : Answer
@@ -58,23 +45,33 @@ module _ (j : Job) (g t β : List ℕ) where
       checked-then (lengthCheck 3 (j .width) (j .height) g) (bytesCheck 4 2 g) (checked-unless (eqb (length g) (j .width * j .height)) 3 (λ e. omega arith))
       (checked-at (firstNot (atMost 2 g) (length g)) 4 (λ e. omega arith))
 
-  pub work-checked : Checked (workCheck j g t β)
-  unfolding workCheck
-  work-checked =
-      checked-then (refuseUnless (jobFits j) 7) (givensCheck (j .width) (j .height) g then cellsCheck then entriesCheck) (checked-unless (jobFits j) 7 (λ e. omega arith))
-      (checked-then (givensCheck (j .width) (j .height) g) (cellsCheck then entriesCheck) marks-checked
+  lent-checked : Checked (lentCheck j g t β)
+  unfolding lentCheck
+  lent-checked =
+      checked-then (givensCheck (j .width) (j .height) g) (cellsCheck then entriesCheck) marks-checked
       (checked-then cellsCheck entriesCheck (checked-unless (eqb (length β) (j .width * j .height)) 5 (λ e. omega arith))
-      (checked-unless (leb (tableSize (j .width) (j .height)) (length t)) 6 (λ e. omega arith))))
+      (checked-unless (leb (tableSize (j .width) (j .height)) (length t)) 6 (λ e. omega arith)))
 
   -- what they have shown where they pass
-  pub lent-of : {values : List ℕ} → workCheck j g t β ≡ gives values → Lent j g t β
-  unfolding workCheck
+  pub lent-passed : {values : List ℕ} → lentCheck j g t β ≡ gives values → (length β ≡ j .width * j .height) × (tableSize (j .width) (j .height) ≤ length t)
+  unfolding lentCheck
+  lent-passed e =
+      let b = then-gives (givensCheck (j .width) (j .height) g) (cellsCheck then entriesCheck) e in
+      let c = then-gives cellsCheck entriesCheck (b .1) in (
+        eqb-true (length β) (j .width * j .height) (unless-gives (eqb (length β) (j .width * j .height)) 5 (c .0 .1)),
+        leb-true (tableSize (j .width) (j .height)) (length t) (unless-gives (leb (tableSize (j .width) (j .height)) (length t)) 6 (c .1)),
+      )
+
+  pub lent-of : {values : List ℕ} → workCheck grid j g t β ≡ gives values → Lent j g t β
+  unfolding lentCheck
   lent-of e =
-      let a = then-gives (refuseUnless (jobFits j) 7) (givensCheck (j .width) (j .height) g then cellsCheck then entriesCheck) e in
-      let b = then-gives (givensCheck (j .width) (j .height) g) (cellsCheck then entriesCheck) (a .1) in
-      let c = then-gives cellsCheck entriesCheck (b .1) in record {
-        taken = unless-gives (jobFits j) 7 (a .0 .1);
-        marks = marks-of (j .width) (j .height) g (b .0 .1) .long;
-        cells = eqb-true (length β) (j .width * j .height) (unless-gives (eqb (length β) (j .width * j .height)) 5 (c .0 .1));
-        entries = leb-true (tableSize (j .width) (j .height)) (length t) (unless-gives (leb (tableSize (j .width) (j .height)) (length t)) 6 (c .1));
-      }
+      let p = work-passed grid j g t β e in
+      let b = then-gives (givensCheck (j .width) (j .height) g) (cellsCheck then entriesCheck) (p .1) in
+      let c = lent-passed (p .1) in
+      record { taken = p .0; marks = marks-of (j .width) (j .height) g (b .0 .1) .long; cells = c .0; entries = c .1 }
+
+pub checks-sound : ChecksSound grid
+checks-sound j g t β = lent-checked j g t β
+
+pub work-checked : (j : Job) (g t β : List ℕ) → Checked (workCheck grid j g t β)
+work-checked j g t β = Shared.work-checked grid j g t β checks-sound

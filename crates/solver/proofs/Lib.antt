@@ -10,8 +10,6 @@ pub mod Machine
 pub mod UnitLaws
 pub mod WorkLaws
 pub mod Steps
-pub mod Memory
 pub mod CheckLaws
-pub mod Lists
-pub mod Serving
+pub mod Progress
 pub mod Third

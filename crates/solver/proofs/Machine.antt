@@ -1,168 +1,146 @@
--- A job with its lent memory is a machine of row elimination: a unit of a job that fits is a unit of the machine, and the next job fits.
+-- A grid's job is a machine of row elimination: its numbers go on fitting, so its units are the machine's.
 -- Assumes nothing.
 use mathlib.Core.Path.{_≡_, refl, sym, _∙_, ap, ap₂, subst}
-use mathlib.Core.Bool.{Bool, true, false, cond}
+use mathlib.Core.Bool.{Bool, true, false, cond, true≢false}
 use mathlib.Core.List.{List}
 use Prim.Native.Nat.{ℕ, zero, suc, _+_, _*_, _-_, _^_, _≤_, _<_}
 use native.Mathlib.Nat.{add-comm}
-use native.Mathlib.Numerals.{add-one}
 use native.Mathlib.Omega.{arith}
-use borrow.Author.Tests.{ltb-true, ltb-false, ne-eqb}
 use lib.Dec.{ltb}
-use lib.Pow.{pow-pos}
-use lib.ListN.{set}
-use Rattle.elimination.specs.Candidates.{Choice, nothing, chosen}
-use Rattle.elimination.specs.Table.{fillEntry}
-use Rattle.elimination.specs.Filling as Filling
-use Rattle.elimination.specs.Task.{row}
-use Rattle.elimination.specs.Machine.{Machine}
-use Rattle.elimination.specs.Job.{Mark, running, finished, infeasible, ended, Setup, takeRow, unit}
-use Rattle.elimination.specs.Job as Elimination
-use Rattle.elimination.specs.FillThenChoose.{plan, fillThenChoose}
-use Rattle.elimination.proofs.Job.{unit-row}
-use Rattle.elimination.proofs.FillThenChoose.{plan-fill, plan-row}
-use Rattle.rule.specs.Rule.{nextUnder}
-use Rattle.rule.specs.declared.Rule.{Rule}
-use Rattle.score_table.specs.Rows.{rowWorth}
-use Rattle.solver.specs.Rows.{written}
 use Rattle.board.specs.Checks.{tableSize}
-use Rattle.score_table.specs.ScoreTable.{unitPlace, unitEntry, rowChoice}
-use Rattle.job.specs.Jobs.{aboveOf, lastOf, liveOf, jobFits, chosenTo}
-use Rattle.solver.specs.Units.{State, Step, next, spoiled, chooseStep, unitOf}
+use Rattle.elimination.specs.Task.{fill, row}
+use Rattle.elimination.specs.Machine.{Machine}
+use Rattle.elimination.specs.Job.{Setup}
+use Rattle.elimination.specs.Job as Elimination
+use Rattle.elimination.specs.FillThenChoose.{plan}
+use Rattle.elimination.specs.Filling.{fillAt}
+use Rattle.elimination.proofs.FillThenChoose.{plan-fill, plan-row}
+use Rattle.rule.specs.declared.Rule.{Rule}
+use Rattle.job.specs.Jobs.{markOf, numbersOf, jobOf, jobFits, checkpointFits, afterEntry, afterRow, afterNone}
+use Rattle.job.specs.Jobs as Jobs
 use Rattle.job.specs.declared.Stage.{Stage}
 use Rattle.job.specs.declared.Job.{Job}
-use Rattle.job.proofs.Fits.{Frame, Choosing, Fits, jobAt, fits-of}
+use Rattle.job.specs.declared.Checkpoint.{Checkpoint}
+use Rattle.job.proofs.Fits.{Frame, Choosing, Fits, jobAt, fits-of, fits-at, fits-numbers}
 use Rattle.job.proofs.Next.{entry-fits, row-fits, none-fits}
+use Rattle.score_table.specs.Rows.{rowWorth}
 use Rattle.score_table.proofs.Marks.{row-worth-le}
-use Rattle.solver.proofs.Endings.{kind}
-use Rattle.solver.proofs.Optimum.{putRow}
-use Rattle.score_table.proofs.Places.{table-four, place-same}
-use Rattle.solver.proofs.TableLaws.{entry-same, choice-same, RowBelow, choice-lt}
-
--- ---- the machine
-abbrev pub markIn : Stage → Mark
-markIn Stage.Filling = running
-markIn (Stage.Choosing above last soFar) = running
-markIn (Stage.Finished above last score) = finished
-markIn Stage.Infeasible = infeasible
-
-abbrev pub view : State → Elimination.State ℕ (List ℕ)
-view s = record {
-  units = s .job .units;
-  above = aboveOf (s .job .stage);
-  last = lastOf (s .job .stage);
-  soFar = liveOf (s .job .stage);
-  mark = markIn (s .job .stage);
-  table = s .table;
-  board = s .board;
-}
+use Rattle.score_table.proofs.Places.{table-four}
+use Rattle.service.specs.Service.{next}
+use Rattle.service.specs.Laws.{Follows}
+use Rattle.service.specs.Units.{entryNumbers, rowNumbers, noneNumbers, unitBy, Continues}
+use Rattle.service.proofs.Units as Shared
+use Rattle.solver.specs.Working.{lentCheck}
+use Rattle.solver.specs.Units.{State, Step, setupOf, unitOf, grid}
+use Rattle.solver.specs.Demand.{Of}
+use Rattle.solver.proofs.Endings.{kind-laws}
 
 abbrev pub at : Rule → ℕ → ℕ → ℕ → Stage → List ℕ → List ℕ → State
 at rule w h u s t β = record { job = jobAt rule w h u s; table = t; board = β }
 
+pub same-job : {rule : Rule} {w h : ℕ} (j : Job) → Of rule w h j → jobAt rule w h (j .units) (j .stage) ≡ j
+same-job {rule} {w} {h} j O =
+    ap₂ (λ (x y : ℕ). jobAt rule x y (j .units) (j .stage)) (sym (O .wide)) (sym (O .tall))
+    ∙ ap (λ (x : Rule). jobAt x (j .width) (j .height) (j .units) (j .stage)) (sym (O .ruled))
+
 module _ (rule : Rule) (w h : ℕ) (g : List ℕ) where
-  abbrev pub setup : Setup ℕ (List ℕ)
-  setup = fillThenChoose (kind rule w h g) h (putRow w)
-
   abbrev pub machine : Machine (Elimination.State ℕ (List ℕ))
-  machine = Elimination.machine setup
+  machine = Elimination.machine (setupOf rule w h g)
 
-  -- a state of this rule and grid whose job fits
-  pub record Here (s : State) : Type 0 where
-    pub ruled : s .job .rule ≡ rule
-    pub wide : s .job .width ≡ w
-    pub tall : s .job .height ≡ h
-    pub stage : Fits w h (s .job .units) (s .job .stage)
+  -- the plan, by the units
+  abbrev layer : ℕ
+  layer = 2 ^ w * 2 ^ w
 
-  -- a unit that is done, and one that can't be
-  abbrev pub Steps : Step → State → Type 0
-  Steps (next s′) s = Here s′ × (view s′ ≡ machine .unit (view s))
-  Steps spoiled s = (machine .unit (view s) ≡ view s) × (ended (view s) ≡ false)
+  not-fill : {A : Type 0} (u : ℕ) → tableSize w h ≤ u → {k source target i : ℕ} → plan h layer u ≡ fill k source target i → A
+  not-fill u l {k} {source} {target} {i} e =
+      let d : u ≡ h * layer + (u - h * layer) = omega (arith, table-four w h) in
+      let f : row (u - h * layer) ((u - h * layer) * layer) ≡ fill k source target i = sym (ap (plan h layer) d ∙ plan-row h layer (u - h * layer)) ∙ e in
+      absurd (let z : _≡_ {A = ℕ} 0 1 = cc in omega arith)
+
+  not-row : {A : Type 0} (u : ℕ) → u < tableSize w h → {r source : ℕ} → plan h layer u ≡ row r source → A
+  not-row u l {r} {source} e =
+      let f : fillAt h layer u ≡ row r source = sym (plan-fill h layer u (omega (arith, table-four w h))) ∙ e in
+      absurd (let z : _≡_ {A = ℕ} 0 1 = cc in omega arith)
+
+  which-row : (u : ℕ) → tableSize w h ≤ u → {r source : ℕ} → plan h layer u ≡ row r source → u - tableSize w h ≡ r
+  which-row u l {r} {source} e =
+      let d : u ≡ h * layer + (u - h * layer) = omega (arith, table-four w h) in
+      let f : row (u - h * layer) ((u - h * layer) * layer) ≡ row r source = sym (ap (plan h layer) d ∙ plan-row h layer (u - h * layer)) ∙ e in
+      let q : u - h * layer ≡ r = cc in
+      omega (arith, table-four w h)
 
 module _ {rule : Rule} {w h : ℕ} (z : Frame rule w h) (g : List ℕ) where
-  -- ---- an entry
-  fill-view : (u : ℕ) (t β : List ℕ) (b : Bool) → view (at rule w h u (cond b Stage.Filling (Stage.Choosing 0 0 0)) t β) ≡ view (at rule w h u Stage.Filling t β)
-  fill-view u t β true = refl
-  fill-view u t β false = refl
+  numbers : (u : ℕ) (s : Stage) → Fits w h u s → checkpointFits (numbersOf (jobAt rule w h u s)) ≡ true
+  numbers u s f = fits-numbers (jobAt rule w h u s) (fits-of rule w h u s z f)
 
-  fill-law : (u : ℕ) (t β : List ℕ) → u < tableSize w h → Steps rule w h g (unitOf g (at rule w h u Stage.Filling t β)) (at rule w h u Stage.Filling t β)
-  unfolding unitOf unit fillEntry Filling.place
-  fill-law u t β l =
-      let lq : u < h * (2 ^ w * 2 ^ w) = rw (table-four w h) at l in (
-        record { ruled = refl; wide = refl; tall = refl; stage = entry-fits z u l },
-        fill-view (u + 1) (set t (unitPlace w h u) (unitEntry (nextUnder rule) w h g t u)) β (ltb (u + 1) (tableSize w h))
-            ∙ rw (plan-fill h (2 ^ w * 2 ^ w) u lq, add-one u, entry-same rule w h g t u, place-same w h u),
-      )
+  -- ---- an entry
+  entry-numbers : (u : ℕ) (b : Bool) → numbersOf (jobAt rule w h (u + 1) (cond b Stage.Filling (Stage.Choosing 0 0 0))) ≡ entryNumbers (jobAt rule w h u Stage.Filling)
+  entry-numbers u true = refl
+  entry-numbers u false = refl
+
+  entry-at : (u : ℕ) (s : Stage) → Fits w h u s → markOf s ≡ 0 → {k source target i : ℕ} → plan h (2 ^ w * 2 ^ w) u ≡ fill k source target i
+      → checkpointFits (entryNumbers (jobAt rule w h u s)) ≡ true
+  entry-at u Stage.Filling f m p =
+      ap checkpointFits (sym (entry-numbers u (ltb (u + 1) (tableSize w h)))) ∙ numbers (u + 1) (afterEntry rule w h u .stage) (entry-fits z u f)
+  entry-at u (Stage.Choosing above last live) f m p = not-fill rule w h g u (f .from) p
+  entry-at u (Stage.Finished above last score) f m p = absurd (omega arith)
+  entry-at u Stage.Infeasible f m p = absurd (omega arith)
 
   -- ---- a row
-  module _ (u above last soFar : ℕ) (F : Choosing w h u above last soFar) where
-    abbrev r : ℕ
-    r = u - tableSize w h
+  row-numbers : (u r above last live c n : ℕ) (b : Bool) → ltb (r + 1) h ≡ b
+      → numbersOf (jobAt rule w h (u + 1) (cond b (Stage.Choosing last c n) (Stage.Finished last c n))) ≡ rowNumbers h r (jobAt rule w h u (Stage.Choosing above last live)) c n
+  row-numbers u r above last live c n true e = rw e
+  row-numbers u r above last live c n false e = rw e
 
-    -- what row k + 1 earns as c
-    abbrev worth : ℕ → ℕ → ℕ
-    worth k c = rowWorth w g (k * w) c
+  abbrev worth : ℕ → ℕ → ℕ
+  worth r c = rowWorth w g ((h - suc (h - suc r)) * w) c
 
-    row-view : (last c n u : ℕ) (t β : List ℕ) (b : Bool)
-        → view (at rule w h u (cond b (Stage.Choosing last c n) (Stage.Finished last c n)) t β)
-        ≡ record { units = u; above = last; last = c; soFar = n; mark = cond b running finished; table = t; board = β }
-    row-view last c n u t β true = refl
-    row-view last c n u t β false = refl
+  row-at : (u : ℕ) (s : Stage) → Fits w h u s → markOf s ≡ 0 → {r source : ℕ} → plan h (2 ^ w * 2 ^ w) u ≡ row r source → (c : ℕ) → c < 2 ^ w
+      → checkpointFits (rowNumbers h r (jobAt rule w h u s) c (worth r c + Jobs.liveOf s)) ≡ true
+  row-at u Stage.Filling f m p c l = not-row rule w h g u f p
+  row-at u (Stage.Choosing above last live) f m {r} p c l =
+      let q = which-row rule w h g u (f .from) p in
+      let b = ltb (r + 1) h in
+      let n : live + worth r c ≡ worth r c + live = add-comm live (worth r c) in
+      rw n at
+      (ap checkpointFits (sym (row-numbers u r above last live c (live + worth r c) b refl))
+      ∙ numbers (u + 1) (afterRow rule w h u r last c (live + worth r c) .stage) (row-fits z f r q c (worth r c) l (row-worth-le w g ((h - suc (h - suc r)) * w) c)))
+  row-at u (Stage.Finished above last score) f m p c l = absurd (omega arith)
+  row-at u Stage.Infeasible f m p c l = absurd (omega arith)
 
-    none-view : (t β : List ℕ) → above ≡ 0 → last ≡ 0 → soFar ≡ 0
-        → _≡_ {A = Elimination.State ℕ (List ℕ)} (record { units = suc u; above = above; last = last; soFar = soFar; mark = infeasible; table = t; board = β })
-        (view (at rule w h (suc u) Stage.Infeasible t β))
-    none-view t β p q r = rw (p, q, r)
+  -- ---- none
+  none-at : (u : ℕ) (s : Stage) → Fits w h u s → markOf s ≡ 0 → {source : ℕ} → plan h (2 ^ w * 2 ^ w) u ≡ row 0 source
+      → checkpointFits (noneNumbers (jobAt rule w h u s)) ≡ true
+  none-at u Stage.Filling f m p = not-row rule w h g u f p
+  none-at u (Stage.Choosing above last live) f m p =
+      let q = which-row rule w h g u (f .from) p in
+      let none : last ≡ 0 = f .rows .none q in
+      let one : above ≡ 0 = f .rows .one (omega arith) in
+      let few : live ≡ 0 = omega (arith, rw q at (f .rows .few)) in
+      rw (none, one, few) (numbers (u + 1) (afterNone rule w h u .stage) (none-fits z f q))
+  none-at u (Stage.Finished above last score) f m p = absurd (omega arith)
+  none-at u Stage.Infeasible f m p = absurd (omega arith)
 
-    module _ (t β : List ℕ) where
-      abbrev here : State
-      here = at rule w h u (Stage.Choosing above last soFar) t β
+  -- ---- so the numbers go on fitting
+  pub fits-here : (j : Job) → Of rule w h j → jobFits j ≡ true → Fits w h (j .units) (j .stage)
+  fits-here j O f = fits-at (jobAt rule w h (j .units) (j .stage)) (rw (same-job j O) f) .stage
 
-      -- the machine's unit, where a row is to be chosen
-      machine-row : machine rule w h g .unit (view here) ≡ takeRow (setup rule w h g) r (view here) (rowChoice (nextUnder rule) w h g t r above last)
-      machine-row =
-          let e : u ≡ h * (2 ^ w * 2 ^ w) + r = omega (arith, F .from, table-four w h) in
-          let p : plan h (2 ^ w * 2 ^ w) u ≡ row r (r * (2 ^ w * 2 ^ w)) = ap (plan h (2 ^ w * 2 ^ w)) e ∙ plan-row h (2 ^ w * 2 ^ w) r in
-          unit-row (setup rule w h g) (view here) r (r * (2 ^ w * 2 ^ w)) refl p ∙ ap (takeRow (setup rule w h g) r (view here)) (sym (choice-same rule w h g t r above last))
+  pub continues : Continues (setupOf rule w h g) (Of rule w h)
+  continues = record {
+    after-entry = λ j O f m k source target i p.
+        subst (λ (x : Job). checkpointFits (entryNumbers x) ≡ true) (same-job j O) (entry-at (j .units) (j .stage) (fits-here j O f) m p);
+    after-row = λ j O f m r source p c l.
+        subst (λ (x : Job). checkpointFits (rowNumbers h r x c (worth r c + Jobs.liveOf (x .stage))) ≡ true) (same-job j O)
+        (row-at (j .units) (j .stage) (fits-here j O f) m p c l);
+    after-none = λ j O f m source p.
+        subst (λ (x : Job). checkpointFits (noneNumbers x) ≡ true) (same-job j O) (none-at (j .units) (j .stage) (fits-here j O f) m p);
+    same = λ j t O a b c d. record { ruled = ap₂ (λ (x y : ℕ). record { births = x; survivals = y }) c d ∙ O .ruled; wide = a ∙ O .wide; tall = b ∙ O .tall };
+  }
 
-      -- by what is chosen
-      choose-law : (k : ℕ) → r ≡ k → (o : Choice ℕ) → RowBelow (2 ^ w) o → machine rule w h g .unit (view here) ≡ takeRow (setup rule w h g) k (view here) o
-          → Steps rule w h g (chooseStep g rule w h u k last soFar t β o) here
-      choose-law k e (chosen c n) l m =
-          let q : k ≡ h - suc (h - suc k) = omega (arith, F .from, F .until) in
-          let f : worth k c ≡ worth (h - suc (h - suc k)) c = ap (λ (x : ℕ). worth x c) q in (
-            record { ruled = refl; wide = refl; tall = refl; stage = row-fits z F k e c (worth k c) l (row-worth-le w g (k * w) c) },
-            row-view last c (soFar + worth k c) (u + 1) t (written w c β (k * w) w) (ltb (k + 1) h) ∙ rw (add-one u, add-one k, add-comm soFar (worth k c), f) (sym m),
-          )
-      choose-law zero e nothing l m =
-          let none : last ≡ 0 = F .rows .none e in
-          let one : above ≡ 0 = F .rows .one (omega arith) in
-          let few : soFar ≡ 0 = omega (arith, rw e at (F .rows .few)) in
-          (record { ruled = refl; wide = refl; tall = refl; stage = none-fits z F e }, rw (add-one u) (sym (m ∙ none-view t β one none few)))
-      choose-law (suc k) e nothing l m = rw (ne-eqb (suc k) 0 (omega arith)) (m, refl)
+  pub unit-same : (s : State) → Of rule w h (s .job) → unitOf g s ≡ unitBy (setupOf rule w h g) s
+  unfolding unitOf
+  unit-same s O = rw (O .ruled, O .wide, O .tall)
 
-      row-law : Steps rule w h g (unitOf g here) here
-      unfolding unitOf
-      row-law = choose-law r refl (rowChoice (nextUnder rule) w h g t r above last) (choice-lt rule (z .size) g t r above last) machine-row
-
-  -- ---- any unit of a job that fits
-  at-law : (u : ℕ) (s : Stage) (t β : List ℕ) → Fits w h u s → Steps rule w h g (unitOf g (at rule w h u s t β)) (at rule w h u s t β)
-  unfolding unitOf unit
-  at-law u Stage.Filling t β f = fill-law u t β f
-  at-law u (Stage.Choosing above last soFar) t β f = row-law u above last soFar f t β
-  at-law u (Stage.Finished above last score) t β f = (record { ruled = refl; wide = refl; tall = refl; stage = f }, refl)
-  at-law u Stage.Infeasible t β f = (record { ruled = refl; wide = refl; tall = refl; stage = f }, refl)
-
-  same-job : (s : State) → Here rule w h g s → jobAt rule w h (s .job .units) (s .job .stage) ≡ s .job
-  same-job s H =
-      ap₂ (λ (x y : ℕ). jobAt rule x y (s .job .units) (s .job .stage)) (sym (H .wide)) (sym (H .tall))
-      ∙ ap (λ (x : Rule). jobAt x (s .job .width) (s .job .height) (s .job .units) (s .job .stage)) (sym (H .ruled))
-
-  pub unit-law : (s : State) → Here rule w h g s → Steps rule w h g (unitOf g s) s
-  unit-law s H =
-      let e : at rule w h (s .job .units) (s .job .stage) (s .table) (s .board) ≡ s =
-      ap (λ (j : Job). record { job = j; table = s .table; board = s .board }) (same-job s H) in
-      subst (λ (x : State). Steps rule w h g (unitOf g x) x) e (at-law (s .job .units) (s .job .stage) (s .table) (s .board) (H .stage))
-
-  pub here-fits : (s : State) → Here rule w h g s → jobFits (s .job) ≡ true
-  here-fits s H = rw (same-job s H) at (fits-of rule w h (s .job .units) (s .job .stage) z (H .stage))
+-- ---- and the job follows the machine
+abbrev pub follows : {rule : Rule} {w h : ℕ} → Frame rule w h → (g : List ℕ) → Follows grid g (machine rule w h g)
+follows {rule} {w} {h} z g = Shared.follows (List ℕ) lentCheck unitOf g (setupOf rule w h g) (kind-laws rule w h g (z .size)) (Of rule w h) (continues z g) (unit-same z g)

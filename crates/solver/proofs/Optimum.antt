@@ -23,7 +23,7 @@ use Rattle.elimination.proofs.Endings.{ending-length}
 use Rattle.rule.specs.declared.Rule.{Rule}
 use Rattle.life.specs.Rows.{rowOf}
 use Rattle.solver.specs.Grid.{Solution, score, Precedes, Optimal}
-use Rattle.solver.specs.Rows.{written}
+use Rattle.solver.specs.Units.{putRow}
 use Rattle.solver.specs.Theorems.{nextRows, allRows}
 use Rattle.job.proofs.Fits.{Frame}
 use Rattle.solver.proofs.Writing.{written-length, written-before, written-after, written-cell, reads-back}
@@ -31,9 +31,6 @@ use Rattle.solver.proofs.RowLaws.{same-number, row-inside, row-none, sa
 use Rattle.solver.proofs.Endings.{kind, solution-ends, ends-solution, total-score}
 
 -- ---- one row written: the row with r rows above it becomes c
-abbrev pub putRow : ℕ → ℕ → ℕ → List ℕ → List ℕ
-putRow w r c board = written w c board (r * w) w
-
 -- the first n bytes are cells
 abbrev Cells : List ℕ → ℕ → Type 0
 Cells board n = (p : ℕ) → p < n → getD board p 0 ≤ 1

@@ -1,100 +1,90 @@
--- The third demand holds: over memory that checks 5 and 6 take, the list of calls is served by row elimination; over any other memory every
--- working call is turned away.
+-- The third demand holds: a grid's job shows the laws of a kind of job.
 -- Assumes nothing.
 use mathlib.Core.Path.{_≡_, refl, sym, _∙_, ap, subst}
-use mathlib.Core.Bool.{Bool, true, false}
 use mathlib.Core.List.{List}
-use Prim.Native.Nat.{ℕ, _*_, _≤_, _<_}
+use Prim.Native.Nat.{ℕ, suc, _+_, _*_, _-_, _^_, _≤_, _<_}
+use native.Mathlib.Nat.{mul-le-mul}
 use native.Mathlib.Omega.{arith}
-use borrow.Author.Tests.{leb-true, eqb-true, leb-false, eqb-false}
-use lib.Dec.{leb, eqb}
 use lib.Pow.{pow-pos}
 use lib.ListN.{length}
-use Rattle.board.specs.Answers.{Answer, gives, _then_}
+use Rattle.board.specs.Answers.{gives, passed, _then_}
 use Rattle.board.specs.Checks.{givensCheck, tableSize}
 use Rattle.board.proofs.Answers.{then-gives}
+use Rattle.board.proofs.Powers.{four-two}
 use Rattle.rule.specs.Rule.{gridCheck}
 use Rattle.rule.specs.declared.Rule.{Rule}
 use Rattle.rule.proofs.Rules.{grid-allowed}
-use Rattle.elimination.specs.Kind.{rightEntry, rightRows}
-use Rattle.elimination.specs.Completion.{Completion, toBoard, toNone}
-use Rattle.elimination.proofs.FillThenChoose.{fill-then-choose-completes}
-use Rattle.solver.specs.Grid.{score}
-use Rattle.job.specs.Jobs.{boardLength, noneLength, start, jobSays, openRule, openedSays, jobFits}
-use Rattle.solver.specs.Working as Working
-use Rattle.solver.specs.Units.{State}
-use Rattle.solver.specs.Demand.{Call, Each, Fair, Served, Outcome, solved, unsolvable, ThirdDemand}
-use Rattle.solver.specs.Theorems.{allRows, BestOrNone, best, none}
+use Rattle.elimination.specs.FillThenChoose.{plan, schedule}
+use Rattle.elimination.specs.Places.{Orderly, Scheduled}
+use Rattle.elimination.specs.Shape.{Shape, ShapeLaws, whole}
+use Rattle.elimination.specs.Progress.{RowWriter}
+use Rattle.elimination.proofs.FillThenChoose.{schedule-lengths}
+use Rattle.elimination.proofs.Shape.{whole-lawful}
+use Rattle.elimination.proofs.Whole.{orderly, scheduled}
+use Rattle.job.specs.Jobs.{boardLength, noneLength, start, jobSays, openRule, openedSays}
 use Rattle.job.specs.declared.Stage.{Stage}
 use Rattle.job.specs.declared.Job.{Job}
-use Rattle.job.proofs.Fits.{Frame, fits-of, pausable}
-use Rattle.solver.proofs.Endings.{kind, kind-laws, solution-ends}
-use Rattle.solver.proofs.Optimum.{putRow, boardOf, optimal}
+use Rattle.job.proofs.Fits.{Frame, fits-of}
+use Rattle.service.specs.Demand.{Demand}
+use Rattle.service.specs.JobKinds.{aimOf, KindLaws}
+use Rattle.service.proofs.JobKinds.{kind-meets-demand}
 use Rattle.score_table.proofs.Places.{table-four}
-use Rattle.solver.proofs.Machine.{setup, at}
-use Rattle.solver.proofs.Memory.{entries}
-use Rattle.solver.proofs.Lists.{idle}
-use Rattle.solver.proofs.Serving.{course, units-split, table-pos, board-served, none-served}
-use Rattle.solver.proofs.Theorems.{choice-is-optimal}
+use Rattle.solver.specs.Working.{lentCheck}
+use Rattle.solver.specs.Units.{putRow, unitOf, grid}
+use Rattle.solver.specs.Demand.{gridShape, gridKind, ThirdDemand}
+use Rattle.solver.specs.Theorems.{allRows}
+use Rattle.solver.proofs.Writing.{written-length}
+use Rattle.solver.proofs.Endings.{kind, kind-laws, solution-ends}
+use Rattle.solver.proofs.Optimum.{put-before, put-after, boardOf, into-same, is-total, optimal}
+use Rattle.solver.proofs.CheckLaws.{checks-sound, lent-passed}
+use Rattle.solver.proofs.Machine.{fits-here, continues, unit-same}
+use Rattle.solver.proofs.Progress.{table-pos, progress}
 
--- the opened job with its memory
-abbrev opened : Rule → ℕ → ℕ → List ℕ → List ℕ → State
-opened rule w h t β = at rule w h 0 Stage.Filling t β
+-- the numbers of a grid's job are those of the plan that fills the whole table first
+shape-is : (w h : ℕ) → whole (2 ^ w) h w ≡ gridShape w h
+unfolding tableSize
+shape-is w h =
+    let b : h * (4 ^ w + 1) ≡ h * 4 ^ w + h = omega arith in
+    rw (b, four-two w)
 
--- ---- memory that the checks take
-open-outcome : {rule : Rule} {w h : ℕ} → Frame rule w h → (g t β : List ℕ) → length β ≡ w * h → entries w h ≤ length t
-    → (cs : List Call) → Each (Fair g) cs (opened rule w h t β) → Outcome rule w h g cs (opened rule w h t β)
-open-outcome {rule} {w} {h} z g t β size room cs f =
-    go (fill-then-choose-completes (kind rule w h g) h (putRow w) (kind-laws rule w h g (z .size)) (z .size .some-row) (pow-pos w) t room β)
-  where
-    go : Completion (setup rule w h g) (course w h) t β → Outcome rule w h g cs (opened rule w h t β)
-    go (toBoard T r) =
-        let rows = rightRows (kind rule w h g) h 0 0 in
-        solved (boardOf w h rows) (optimal z g (rightEntry (kind rule w h g) h 0 0) rows T) (board-served z g t β size room T r cs f)
-    go (toNone n r) = unsolvable (λ b S. n (allRows w h b) (solution-ends (z .allowed) (S .grid) g S)) (none-served z g t β size room r cs f)
+long-is : (w h : ℕ) → h * (2 ^ w * 2 ^ w) + h ≡ boardLength w h
+long-is w h = ap (λ (S : Shape). S .boardLength) (shape-is w h)
 
--- ---- any other memory
-module _ {rule : Rule} {w h : ℕ} (z : Frame rule w h) (g t β : List ℕ) (shut : length β ≡ w * h → tableSize w h ≤ length t → ⊥) where
-  start-fits : jobFits (start rule w h) ≡ true
-  start-fits = fits-of rule w h 0 Stage.Filling z (table-pos (z .size))
+module _ {rule : Rule} {w h : ℕ} (z : Frame rule w h) (g : List ℕ) where
+  some : 0 < 2 ^ w * 2 ^ w
+  some = mul-le-mul (pow-pos w) (pow-pos w)
 
-  idle-served : (long : ℕ) (final : Answer) (wanted : List ℕ) → 0 < long → (cs : List Call) → Each (Fair g) cs (opened rule w h t β) → Served rule w h g long final wanted cs (opened rule w h t β)
-  idle-served long final wanted pos cs f =
-      let I = idle g (opened rule w h t β) start-fits shut long final cs f in record {
-        units = rw (I .state, I .sum) (omega arith);
-        answers = I .answers;
-        pausable = rw (I .state) (pausable (start rule w h) start-fits);
-        progress = rw (I .state) (record {
-          ruled = refl;
-          width = refl;
-          height = refl;
-          units = units-split w h 0 Stage.Filling (table-pos (z .size));
-          filled = record { size = refl; right = λ u l. absurd (omega arith); rest = λ p n. refl };
-          written = record { size = refl; rows = λ p l. absurd (omega arith); rest = λ p l. refl };
-        });
-        board = λ l. absurd (omega (arith, I .sum));
-      }
-
-  shut-outcome : (cs : List Call) → Each (Fair g) cs (opened rule w h t β) → Outcome rule w h g cs (opened rule w h t β)
-  unfolding tableSize
-  shut-outcome cs f = go (choice-is-optimal rule (z .allowed) w h g (z .size))
-    where
-      long : 0 < boardLength w h
-      long = omega (arith, table-pos (z .size))
-
-      go : BestOrNone rule w h g → Outcome rule w h g cs (opened rule w h t β)
-      go (best board O rows is) = solved board O (idle-served (boardLength w h) (Working.finished (score w h g board)) board long cs f)
-      go (none n e) = unsolvable n (idle-served (noneLength w h) Working.infeasible β (omega arith) cs f)
+  kind-shows : KindLaws (List ℕ) lentCheck unitOf g (gridKind rule w h g)
+  kind-shows = record {
+    laws = kind-laws rule w h g (z .size);
+    high = z .size .some-row;
+    wide = pow-pos w;
+    plans = refl;
+    shaped = subst ShapeLaws (shape-is w h) (whole-lawful (2 ^ w) h w (z .size .some-row));
+    orderly = rw (table-four w h, ← long-is w h) (orderly (2 ^ w) h some);
+    course = schedule h (2 ^ w * 2 ^ w);
+    scheduled = rw (← long-is w h) (scheduled h (2 ^ w * 2 ^ w));
+    length-board = schedule-lengths h (2 ^ w * 2 ^ w) (z .size .some-row) .board ∙ ap (λ (q : ℕ). h * (q + 1)) (sym (four-two w));
+    length-none = schedule-lengths h (2 ^ w * 2 ^ w) (z .size .some-row) .none ∙ ap (λ (q : ℕ). h * q + 1) (sym (four-two w));
+    shorter = omega (arith, z .size .some-row);
+    units = unit-same z g;
+    continues = continues z g;
+    checks = checks-sound;
+    room = λ j t β O p. let L = lent-passed j g t β p in (rw (O .wide, O .tall) at (L .0), rw (O .wide, O .tall) at (L .1));
+    zero-start = refl;
+    writer = record {
+      size = λ r c β. written-length w c β (r * w) w;
+      before = λ r c β p l. put-before w r c β p l;
+      after = λ r c β p l. put-after w r c β p l;
+    };
+    boardOf = boardOf w h;
+    into = λ rows E β size. into-same z g rows E β size;
+    best = λ x rows T. (optimal z g x rows T, is-total z g x rows T);
+    none = λ n b S. n (allRows w h b) (solution-ends (z .allowed) (S .grid) g S);
+    progress = λ wanted before now O f n F E. progress z g wanted before now O (fits-here z g (now .job) O f) n F E;
+  }
 
 -- ---- the theorem
-outcome : {rule : Rule} {w h : ℕ} → Frame rule w h → (g t β : List ℕ) (cs : List Call) → Each (Fair g) cs (opened rule w h t β) → Outcome rule w h g cs (opened rule w h t β)
-outcome {rule} {w} {h} z g t β cs f = go (eqb (length β) (w * h)) refl (leb (tableSize w h) (length t)) refl
-  where
-    go : (a : Bool) → eqb (length β) (w * h) ≡ a → (b : Bool) → leb (tableSize w h) (length t) ≡ b → Outcome rule w h g cs (opened rule w h t β)
-    go true p true q = open-outcome z g t β (eqb-true (length β) (w * h) p) (rw (table-four w h) at (leb-true (tableSize w h) (length t) q)) cs f
-    go true p false q = shut-outcome z g t β (λ c e. absurd (omega (arith, leb-false (tableSize w h) (length t) q))) cs f
-    go false p b q = shut-outcome z g t β (λ c e. eqb-false (length β) (w * h) p c) cs f
-
 -- what opening takes has a size and a rule
 opened-frame : (rule : Rule) (w h : ℕ) (g : List ℕ) (j : Job) → gives (jobSays j) ≡ openRule rule w h g → Frame rule w h
 unfolding openRule
@@ -104,8 +94,15 @@ opened-frame rule w h g j e =
 
 pub third-demand : ThirdDemand
 unfolding ThirdDemand
-third-demand rule w h g t β r j O e cs f =
-    let is = O .job j e in
+third-demand rule w h g t β r j O e =
     let z = opened-frame rule w h g j (sym (ap openedSays e) ∙ O .says) in
-    subst (λ (x : Job). Outcome rule w h g cs (record { job = x; table = t; board = β })) (sym is)
-    (outcome z g t β cs (subst (λ (x : Job). Each (Fair g) cs (record { job = x; table = t; board = β })) is f))
+    subst (λ (x : Job). Demand grid (aimOf (gridKind rule w h g)) g (record { job = x; table = t; board = β })) (sym (O .job j e))
+    (kind-meets-demand (List ℕ) lentCheck unitOf g (gridKind rule w h g) (kind-shows z g) (record { job = start rule w h; table = t; board = β }) (record {
+      of = record { ruled = refl; wide = refl; tall = refl };
+      fits = fits-of rule w h 0 Stage.Filling z (table-pos (z .size));
+      units = refl;
+      mark = refl;
+      above = refl;
+      last = refl;
+      live = refl;
+    }))

@@ -4,16 +4,21 @@
 use mathlib.Core.Path.{_≡_, refl, _∙_, subst}
 use mathlib.Core.Bool.{Bool, true, false, cond}
 use mathlib.Core.List.{List}
-use Prim.Native.Nat.{ℕ, _+_, _*_, _-_, _≤_, _<_}
-use lib.Dec.{eqb}
+use Prim.Native.Nat.{ℕ, zero, suc, _+_, _*_, _-_, _^_, _≤_, _<_}
 use lib.ListN.{length, length-set}
 use Rattle.elimination.specs.Candidates.{Choice, nothing, chosen}
-use Rattle.rule.specs.Rule.{nextUnder}
 use Rattle.rule.specs.declared.Rule.{Rule}
 use Rattle.board.specs.Checks.{tableSize}
-use Rattle.score_table.specs.ScoreTable.{unitPlace, unitEntry, rowChoice}
-use Rattle.job.specs.Jobs.{jobFits}
-use Rattle.solver.specs.Units.{State, Step, next, spoiled, chooseStep, stageStep, unitOf}
+use Rattle.job.specs.Jobs.{aboveOf, lastOf, markOf, jobFits}
+use Rattle.rule.specs.Rule.{nextUnder}
+use Rattle.elimination.specs.Kind.{choose}
+use Rattle.elimination.specs.Table.{reads, fillEntry}
+use Rattle.score_table.specs.ScoreTable.{kindOf}
+use Rattle.elimination.specs.Task.{Task, fill, row}
+use Rattle.elimination.specs.FillThenChoose.{plan}
+use Rattle.service.specs.Units.{rowStep, taskStep, markStep, unitBy}
+use Rattle.service.specs.Service.{next, spoiled}
+use Rattle.solver.specs.Units.{State, Step, setupOf, unitOf}
 use Rattle.solver.specs.Inner.{Lent, Chooses}
 use Rattle.score_table.specs.Inner.{Memory}
 use Rattle.job.specs.declared.Stage.{Stage}
@@ -21,7 +26,7 @@ use Rattle.job.specs.declared.Job.{Job}
 use Rattle.job.proofs.Fits.{Choosing, jobAt, fits-at}
 use Rattle.job.proofs.Next.{fits-filling, fits-choosing}
 use Rattle.solver.proofs.Writing.{written-length}
-use Rattle.solver.proofs.Machine.{Steps, unit-law, here-fits}
+use Rattle.solver.proofs.Machine.{follows}
 
 -- ---- the job
 -- a next job that fits, of the same rule and grid
@@ -34,11 +39,8 @@ pub record Fit (j j′ : Job) : Type 0 where
 pub unit-fits : (g : List ℕ) (s s′ : State) → jobFits (s .job) ≡ true → unitOf g s ≡ next s′ → Fit (s .job) (s′ .job)
 unit-fits g s s′ f e =
     let T = fits-at (s .job) f in
-    let rule = s .job .rule in
-    let w = s .job .width in
-    let h = s .job .height in
-    let H = subst (λ (o : Step). Steps rule w h g o s) e (unit-law (T .frame) g s (record { ruled = refl; wide = refl; tall = refl; stage = T .stage })) .0 in
-    record { taken = here-fits (T .frame) g s′ H; rule = H .ruled; width = H .wide; height = H .tall }
+    let H = follows (T .frame) g .moves s s′ (record { of = record { ruled = refl; wide = refl; tall = refl }; taken = f }) e .0 in
+    record { taken = H .taken; rule = H .of .ruled; width = H .of .wide; height = H .of .tall }
 
 -- ---- the memory
 record Lengths (t β t′ β′ : List ℕ) : Type 0 where
@@ -49,25 +51,29 @@ abbrev StepLengths : List ℕ → List ℕ → Step → Type 0
 StepLengths t β (next s′) = Lengths t β (s′ .table) (s′ .board)
 StepLengths t β spoiled = Unit {0}
 
-choose-lengths : (g : List ℕ) (rule : Rule) (w h u r last soFar : ℕ) (t β : List ℕ) (o : Choice ℕ) → StepLengths t β (chooseStep g rule w h u r last soFar t β o)
-choose-lengths g rule w h u r last soFar t β (chosen c n) = record { table = refl; board = written-length w c β (r * w) w }
-choose-lengths g rule w h u r last soFar t β nothing = go (eqb r 0)
-  where
-    go : (b : Bool) → StepLengths t β (cond b (next record { job = jobAt rule w h (u + 1) Stage.Infeasible; table = t; board = β }) spoiled)
-    go true = record { table = refl; board = refl }
-    go false = tt
+module _ (rule : Rule) (w h : ℕ) (g : List ℕ) (s : State) where
+  row-lengths : (r : ℕ) (o : Choice ℕ) → StepLengths (s .table) (s .board) (rowStep (setupOf rule w h g) r s o)
+  row-lengths r (chosen c n) = record { table = refl; board = written-length w c (s .board) (r * w) w }
+  row-lengths zero nothing = record { table = refl; board = refl }
+  row-lengths (suc r) nothing = tt
 
-stage-lengths : (g : List ℕ) (rule : Rule) (w h u : ℕ) (s : Stage) (t β : List ℕ) → StepLengths t β (stageStep g rule w h u s t β)
-stage-lengths g rule w h u Stage.Filling t β = record { table = length-set t (unitPlace w h u) (unitEntry (nextUnder rule) w h g t u); board = refl }
-stage-lengths g rule w h u (Stage.Choosing above last soFar) t β =
-    choose-lengths g rule w h u (u - tableSize w h) last soFar t β (rowChoice (nextUnder rule) w h g t (u - tableSize w h) above last)
-stage-lengths g rule w h u (Stage.Finished above last score) t β = record { table = refl; board = refl }
-stage-lengths g rule w h u Stage.Infeasible t β = record { table = refl; board = refl }
+  task-lengths : (o : Task) → StepLengths (s .table) (s .board) (taskStep (setupOf rule w h g) o s)
+  unfolding fillEntry
+  task-lengths (fill k source target j) = record { table = length-set (s .table) (target + j) _; board = refl }
+  task-lengths (row r source) =
+      row-lengths r
+      (choose (kindOf (nextUnder rule) w h g) (h - suc r) (aboveOf (s .job .stage)) (lastOf (s .job .stage))
+      (reads (kindOf (nextUnder rule) w h g) (s .table) source (lastOf (s .job .stage))))
+
+  mark-lengths : (m : ℕ) (o : Task) → StepLengths (s .table) (s .board) (markStep (setupOf rule w h g) m o s)
+  mark-lengths zero o = task-lengths o
+  mark-lengths (suc m) o = record { table = refl; board = refl }
 
 unit-lengths : (g : List ℕ) (s s′ : State) → unitOf g s ≡ next s′ → Lengths (s .table) (s .board) (s′ .table) (s′ .board)
-unfolding unitOf
+unfolding unitOf unitBy
 unit-lengths g s s′ e =
-    subst (StepLengths (s .table) (s .board)) e (stage-lengths g (s .job .rule) (s .job .width) (s .job .height) (s .job .units) (s .job .stage) (s .table) (s .board))
+    subst (StepLengths (s .table) (s .board)) e
+    (mark-lengths (s .job .rule) (s .job .width) (s .job .height) g s (markOf (s .job .stage)) (plan (s .job .height) (2 ^ s .job .width * 2 ^ s .job .width) (s .job .units)))
 
 -- ---- what the checks have shown holds again
 pub unit-lent : (g : List ℕ) (s s′ : State) → Lent (s .job) g (s .table) (s .board) → unitOf g s ≡ next s′ → Lent (s′ .job) g (s′ .table) (s′ .board)

@@ -1,103 +1,26 @@
--- THE THIRD DEMAND: document 01, "The third demand is a single claim about the whole list of calls".
+-- THE THIRD DEMAND of a grid: what its job does on the way and comes to. Lists of calls, and the claim for any kind of job, are `Demand` of
+-- crate `service`.
 -- Assumes nothing.
 use mathlib.Core.Path.{_≡_}
-use mathlib.Core.Bool.{true, false}
-use mathlib.Core.List.{List, [], _∷_}
-use Prim.Native.Nat.{ℕ, _+_, _-_, _*_, _≤_, _<_, min}
+use mathlib.Core.List.{List}
+use Prim.Native.Nat.{ℕ, _+_, _-_, _*_, _^_, _≤_, _<_, min}
 use lib.ListN.{length, getD}
-use Rattle.board.specs.Answers.{Answer, gives, refuses, passed}
 use Rattle.elimination.specs.Kind.{rightEntry}
 use Rattle.rule.specs.Rule.{nextUnder}
 use Rattle.rule.specs.declared.Rule.{Rule}
 use Rattle.solver.specs.Grid.{Solution, Optimal, score}
 use Rattle.score_table.specs.ScoreTable.{kindOf, rowsAfter, rowA, rowB, unitPlace}
 use Rattle.board.specs.Checks.{tableSize}
-use Rattle.job.specs.Jobs.{boardLength, noneLength, jobSays, checkpointSays, checkpointFits, jobOf, pauseRule, resumeRule}
-use Rattle.solver.specs.Working.{workCheck, unfinished, finished, infeasible}
-use Rattle.solver.specs.Units.{State}
-use Rattle.job.specs.Calls.{Opens, Pausable}
-use Rattle.solver.specs.Calls.{Result, workOf}
+use Rattle.job.specs.Jobs.{boardLength, noneLength}
+use Rattle.job.specs.Calls.{Opens}
 use Rattle.job.specs.declared.Stage.{Stage}
 use Rattle.job.specs.declared.Job.{Job}
-use Rattle.job.specs.declared.Checkpoint.{Checkpoint}
 use Rattle.job.specs.declared.Opened.{Opened}
-
--- ---- a list of calls
--- A working call lends givens, a table and a board, and has an allowance. It and a pause get the job last handed out.
-pub data Call : Type 0 where
-  work : (givens table board : List ℕ) (allowance : ℕ) → Call
-  pause : Call
-  resume : Checkpoint → Call
-
--- A working call that passes its checks leaves what it leaves in the list's own table and board. One that is turned away hands its job back;
--- the list's own table and board are as they were, whatever it lent.
-abbrev pub afterWork : Answer → State → State → State
-afterWork (gives values) left s = left
-afterWork (refuses n values) left s = record { job = left .job; table = s .table; board = s .board }
-
--- a resumption that is turned away hands out no job
-abbrev pub afterResume : Answer → Checkpoint → State → State
-afterResume (gives values) t s = record { job = jobOf t; table = s .table; board = s .board }
-afterResume (refuses n values) t s = s
-
--- the job last handed out, and the list's own table and board, after a call
-abbrev pub afterCall : Call → State → State
-afterCall (work givens table board allowance) s =
-    afterWork (workCheck (s .job) givens table board) (workOf (s .job) givens table board allowance .state) s
-afterCall pause s = s
-afterCall (resume t) s = afterResume (resumeRule t) t s
-
-unfoldable pub run : List Call → State → State
-run [] s = s
-run (c ∷ cs) s = run cs (afterCall c s)
-
--- P holds of each call and the state that it meets
-abbrev pub Each : (Call → State → Type 0) → List Call → State → Type 0
-Each P [] s = Unit {0}
-Each P (c ∷ cs) s = P c s × Each P cs (afterCall c s)
-
--- What the list may hold: a working call that passes lends the opened givens and the list's own table and board as they then are; a resumption
--- that passes gets the numbers that pausing this job gives. What is turned away may be anything.
-abbrev pub Fair : List ℕ → Call → State → Type 0
-Fair opened (work givens table board allowance) s =
-    workCheck (s .job) givens table board ≡ passed → (givens ≡ opened) × (table ≡ s .table) × (board ≡ s .board)
-Fair opened pause s = Unit {0}
-Fair opened (resume t) s = checkpointFits t ≡ true → pauseRule (s .job) ≡ gives (checkpointSays t)
-
--- the sum of the allowances; those turned away aren't summed
-abbrev pub counted : Answer → ℕ → ℕ
-counted (gives values) allowance = allowance
-counted (refuses n values) allowance = 0
-
-abbrev pub allowed : Call → State → ℕ
-allowed (work givens table board allowance) s = counted (workCheck (s .job) givens table board) allowance
-allowed pause s = 0
-allowed (resume t) s = 0
-
-unfoldable pub summed : List Call → State → ℕ
-summed [] s = 0
-summed (c ∷ cs) s = allowed c s + summed cs (afterCall c s)
-
--- ---- what each call answers, where the job's length is `long` and its last answer `final`
--- A working call never answers 9. One that is turned away hands its job back and writes nothing of what it is lent. One that passes answers
--- unfinished while the units done after it are below the length, and from there on always the last answer.
-pub record WorkAnswers (long : ℕ) (final : Answer) (check : Answer) (lent : State) (result : Result) : Type 0 where
-  pub turned : (n : ℕ) (values : List ℕ) → check ≡ refuses n values → result ≡ record { answer = refuses n values; state = lent }
-  pub sound : (values : List ℕ) → result .answer ≡ refuses 9 values → ⊥
-  pub below : check ≡ passed → result .state .job .units < long → result .answer ≡ unfinished
-  pub from : check ≡ passed → long ≤ result .state .job .units → result .answer ≡ final
-
--- A resumption that passes hands this job out again; one that is turned away answers 7 and hands out none. Either leaves everything as it is.
-pub record ResumeAnswers (t : Checkpoint) (s : State) : Type 0 where
-  pub passes : checkpointFits t ≡ true → resumeRule t ≡ gives (jobSays (s .job))
-  pub turned : checkpointFits t ≡ false → resumeRule t ≡ refuses 7 []
-  pub same : afterCall (resume t) s ≡ s
-
-abbrev pub Answers : ℕ → Answer → Call → State → Type 0
-Answers long final (work givens table board allowance) s =
-    WorkAnswers long final (workCheck (s .job) givens table board) (record { job = s .job; table = table; board = board }) (workOf (s .job) givens table board allowance)
-Answers long final pause s = Pausable (s .job)
-Answers long final (resume t) s = ResumeAnswers t s
+use Rattle.elimination.specs.FillThenChoose.{plan}
+use Rattle.elimination.specs.Shape.{Shape}
+use Rattle.service.specs.Demand.{Demand}
+use Rattle.service.specs.JobKinds.{JobKind, aimOf}
+use Rattle.solver.specs.Units.{State, setupOf, grid}
 
 -- ---- what is done
 -- the right number for unit u of filling: entry (h - rowsAfter, rowA, rowB) by the rule over right entries. `EntriesRight` of `Theorems` says what
@@ -146,27 +69,42 @@ pub record Progress (rule : Rule) (w h : ℕ) (givens wanted : List ℕ) (before
   pub written : Written w (chosenRows w h (now .job)) wanted (before .board) (now .board)
 
 -- ---- the claim
--- What a list of calls comes to, where the job's length is `long`, its last answer `final` and its last board `wanted`: the units done are the
--- sum of the allowances, or the length where that is less; every call answers as it has to; the job can be paused; and this much is done.
-pub record Served (rule : Rule) (w h : ℕ) (givens : List ℕ) (long : ℕ) (final : Answer) (wanted : List ℕ) (calls : List Call) (s : State) : Type 0 where
-  pub units : run calls s .job .units ≡ min long (summed calls s)
-  pub answers : Each (Answers long final) calls s
-  pub pausable : Pausable (run calls s .job)
-  pub progress : Progress rule w h givens wanted s (run calls s)
-  pub board : long ≤ summed calls s → run calls s .board ≡ wanted
+-- a job of this rule and grid
+pub record Of (rule : Rule) (w h : ℕ) (j : Job) : Type 0 where
+  pub ruled : j .rule ≡ rule
+  pub wide : j .width ≡ w
+  pub tall : j .height ≡ h
 
--- Either there is a best board, first in board order among the best, and the job comes to it and to its score, the live cells that were free
--- (`SameBest` of `Theorems`: it is the best by all live cells too); or there is no still board that keeps the givens, the job says so, and the
--- lent board stays unwritten.
-pub data Outcome (rule : Rule) (w h : ℕ) (givens : List ℕ) (calls : List Call) (s : State) : Type 0 where
-  solved : (best : List ℕ) → Optimal rule w h givens best → Served rule w h givens (boardLength w h) (finished (score w h givens best)) best calls s
-      → Outcome rule w h givens calls s
-  unsolvable : ((board : List ℕ) → Solution rule w h givens board → ⊥) → Served rule w h givens (noneLength w h) infeasible (s .board) calls s
-      → Outcome rule w h givens calls s
+-- the numbers of a grid's job
+abbrev pub gridShape : ℕ → ℕ → Shape
+gridShape w h = record {
+  codes = 2 ^ w;
+  entries = tableSize w h;
+  rows = h;
+  plan = plan h (2 ^ w * 2 ^ w);
+  chosen = λ u. u - tableSize w h;
+  boardLength = boardLength w h;
+  noneLength = noneLength w h;
+  most = w;
+}
+
+-- A grid's job, as a kind of job: it is to come to the best board, first in board order among the best, and to its score, the live cells that were
+-- free (`SameBest` of `Theorems`: it is the best by all live cells too).
+abbrev pub gridKind : Rule → ℕ → ℕ → List ℕ → JobKind
+gridKind rule w h givens = record {
+  setup = setupOf rule w h givens;
+  shape = gridShape w h;
+  width = w;
+  cells = w * h;
+  Of = Of rule w h;
+  Solution = Solution rule w h givens;
+  Wanted = Optimal rule w h givens;
+  score = score w h givens;
+  Progress = Progress rule w h givens;
+}
 
 -- every rule, width, height and givens that opening takes, every table and board contents and lengths, every list of calls
 unfoldable pub ThirdDemand : Type 0
 ThirdDemand =
     (rule : Rule) (w h : ℕ) (givens table board : List ℕ) (r : Opened) (j : Job) → Opens rule w h givens r → r ≡ Opened.Ready j
-    → (calls : List Call) → Each (Fair givens) calls (record { job = j; table = table; board = board })
-    → Outcome rule w h givens calls (record { job = j; table = table; board = board })
+    → Demand grid (aimOf (gridKind rule w h givens)) givens (record { job = j; table = table; board = board })

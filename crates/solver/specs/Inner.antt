@@ -7,7 +7,8 @@ use Prim.Native.Nat.{ℕ, _*_, _≤_}
 use lib.ListN.{length}
 use Rattle.board.specs.Checks.{tableSize}
 use Rattle.job.specs.Jobs.{jobFits}
-use Rattle.solver.specs.Units.{State, Step, next, spoiled, unitOf}
+use Rattle.service.specs.Service.{next, spoiled}
+use Rattle.solver.specs.Units.{State, Step, unitOf}
 use Rattle.solver.specs.declared.choosing.Stepped.{Stepped}
 use Rattle.job.specs.declared.Stage.{Stage}
 use Rattle.job.specs.declared.Job.{Job}

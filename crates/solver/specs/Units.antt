@@ -1,62 +1,36 @@
--- Document 01, "A job and its units": what a unit does, over the numbers that the table then holds, right or not.
+-- Document 01, "A job and its units": what a unit of a grid's job does, over the numbers that the table then holds, right or not.
 -- Assumes nothing.
-use mathlib.Core.Bool.{cond}
 use mathlib.Core.List.{List}
-use Prim.Native.Nat.{ℕ, _+_, _*_, _-_}
-use lib.Dec.{eqb}
-use lib.ListN.{set}
-use Rattle.board.specs.Checks.{tableSize}
-use Rattle.elimination.specs.Candidates.{Choice, nothing, chosen}
+use Prim.Native.Nat.{ℕ, _*_}
+use Rattle.elimination.specs.Job.{Setup}
+use Rattle.elimination.specs.FillThenChoose.{fillThenChoose}
 use Rattle.rule.specs.Rule.{nextUnder}
 use Rattle.rule.specs.declared.Rule.{Rule}
-use Rattle.score_table.specs.Rows.{rowWorth}
+use Rattle.service.specs.Service.{Service}
+use Rattle.service.specs.Service as Shared
+use Rattle.service.specs.Units.{unitBy}
+use Rattle.score_table.specs.ScoreTable.{kindOf}
 use Rattle.solver.specs.Rows.{written}
-use Rattle.score_table.specs.ScoreTable.{unitPlace, unitEntry, rowChoice}
-use Rattle.job.specs.Jobs.{afterEntry, afterRow, afterNone}
-use Rattle.job.specs.declared.Stage.{Stage}
-use Rattle.job.specs.declared.Job.{Job}
+use Rattle.solver.specs.Working.{lentCheck}
 
--- a job with the table and the board that it is lent
-pub record State : Type 0 where
-  pub job : Job
-  pub table : List ℕ
-  pub board : List ℕ
+-- a job with the table and the board that it is lent, and what a unit comes to
+abbrev pub State : Type 0
+State = Shared.State (List ℕ)
 
--- what a unit comes to: the next state, or no row can be chosen after row 1
-pub data Step : Type 0 where
-  next : State → Step
-  spoiled : Step
+abbrev pub Step : Type 0
+Step = Shared.Step (List ℕ)
 
--- ---- filling
-abbrev pub fillStep : List ℕ → Rule → ℕ → ℕ → ℕ → List ℕ → List ℕ → Step
-fillStep givens rule w h u table board =
-    next record {
-      job = afterEntry rule w h u;
-      table = set table (unitPlace w h u) (unitEntry (nextUnder rule) w h givens table u);
-      board = board;
-    }
+-- row c is written into its part of the board, with r rows above it
+abbrev pub putRow : ℕ → ℕ → ℕ → List ℕ → List ℕ
+putRow w r c board = written w c board (r * w) w
 
--- ---- choosing
--- a row is written into its part of the board; where there is none, the job ends at row 1, and the table is spoiled at a later row
-abbrev pub chooseStep : List ℕ → Rule → ℕ → ℕ → ℕ → ℕ → ℕ → ℕ → List ℕ → List ℕ → Choice ℕ → Step
-chooseStep givens rule w h u r last soFar table board (chosen c n) =
-    next record {
-      job = afterRow rule w h u r last c (soFar + rowWorth w givens (r * w) c);
-      table = table;
-      board = written w c board (r * w) w;
-    }
-chooseStep givens rule w h u r last soFar table board nothing =
-    cond (eqb r 0) (next record { job = afterNone rule w h u; table = table; board = board }) spoiled
-
--- ---- a unit, by the job's stage; an ended job stays as it is
-abbrev pub stageStep : List ℕ → Rule → ℕ → ℕ → ℕ → Stage → List ℕ → List ℕ → Step
-stageStep givens rule w h u Stage.Filling table board = fillStep givens rule w h u table board
-stageStep givens rule w h u (Stage.Choosing above last soFar) table board =
-    chooseStep givens rule w h u (u - tableSize w h) last soFar table board (rowChoice (nextUnder rule) w h givens table (u - tableSize w h) above last)
-stageStep givens rule w h u (Stage.Finished above last score) table board =
-    next record { job = record { rule = rule; width = w; height = h; units = u; stage = Stage.Finished above last score }; table = table; board = board }
-stageStep givens rule w h u Stage.Infeasible table board =
-    next record { job = record { rule = rule; width = w; height = h; units = u; stage = Stage.Infeasible }; table = table; board = board }
+-- a grid's job: the whole table is filled by the rules of a score table, then the rows are chosen
+abbrev pub setupOf : Rule → ℕ → ℕ → List ℕ → Setup ℕ (List ℕ)
+setupOf rule w h givens = fillThenChoose (kindOf (nextUnder rule) w h givens) h (putRow w)
 
 unfoldable pub unitOf : List ℕ → State → Step
-unitOf givens s = stageStep givens (s .job .rule) (s .job .width) (s .job .height) (s .job .units) (s .job .stage) (s .table) (s .board)
+unitOf givens s = unitBy (setupOf (s .job .rule) (s .job .width) (s .job .height) givens) s
+
+-- ---- the service of a grid: jobs that are lent givens, a table and a board
+abbrev pub grid : Service
+grid = record { Given = List ℕ; Table = List ℕ; check = lentCheck; unit = unitOf }

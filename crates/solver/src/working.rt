@@ -12,13 +12,15 @@ use job::Stage;
 ghost use mathlib.Core.Path.{_≡_};
 ghost use Rattle.board.specs.Answers.{checkSays};
 ghost use Rattle.rule.specs.Rule.{Holds, nextUnder};
-ghost use Rattle.solver.specs.Working.{workCheck, stageSays, statusSays};
-ghost use Rattle.solver.specs.Calls.{resultOf, worksOn};
+ghost use Rattle.service.specs.Service.{workCheck, worksOn, stageSays};
+ghost use Rattle.solver.specs.Working.{statusSays};
+ghost use Rattle.solver.specs.Units.{grid};
+ghost use Rattle.solver.specs.Calls.{resultOf};
 ghost use Rattle.solver.specs.Inner.{Lent, Moves, hasEnded, lentState};
 
 // The checks of a working call: 7 as pausing, then 3, 4, 5, 6.
 pub fn check_work(job: Job, givens: &[u8], table: &[u16], board: &[u8]) -> Check
-    ensures { λ r. ⌜ checkSays r ≡ workCheck job (now (givens .entry)) (now (table .entry)) (now (board .entry)) ⌝ }
+    ensures { λ r. ⌜ checkSays r ≡ workCheck grid job (now (givens .entry)) (now (table .entry)) (now (board .entry)) ⌝ }
 {
     if let Paused::Refused(r) = job.pause() {
         return Check::Refused(r);
@@ -111,7 +113,7 @@ pub fn work_on(
     allowance: u32,
 ) -> Worked
     requires { ⌜ Lent start (now givens) (now table) (now board) ⌝ }
-    ensures { λ r. ⌜ resultOf r (now (table .exit)) (now (board .exit)) ≡ worksOn (now (givens .entry)) allowance (lentState start (now (table .entry)) (now (board .entry))) ⌝ }
+    ensures { λ r. ⌜ resultOf r (now (table .exit)) (now (board .exit)) ≡ worksOn grid (now (givens .entry)) allowance (lentState start (now (table .entry)) (now (board .entry))) ⌝ }
 {
     let rule = start.rule;
     let next = rule::table::of(rule);

@@ -14,7 +14,8 @@ use Rattle.board.proofs.Answers.{turned-away, let-through}
 use Rattle.board.proofs.Powers.{shift-short, shift-long}
 use Rattle.job.specs.Jobs.{jobFits, pausedSays}
 use Rattle.job.proofs.Fits.{fits-at, paused-numbers}
-use Rattle.solver.specs.Working.{workCheck}
+use Rattle.service.specs.Service.{workCheck}
+use Rattle.solver.specs.Working.{lentCheck}
 use Rattle.solver.proofs.CheckLaws.{pause-refused}
 use Rattle.solver.proofs.working.check_work.Statement.{statement}
 use Rattle.solver.proofs.working.check_work.Tie as tie
@@ -52,7 +53,7 @@ enum-known-r-2 : tie.Need-enum-known-r-2
 enum-known-r-2 c = search needs
 
 returns-2 : tie.Need-returns-2
-unfolding workCheck
+unfolding workCheck lentCheck
 returns-2 c =
     let d = c .before .before .before in
     rw (job-at (d .before)) (turned-away (d .check-givens .ensures) (c .before .r2 .given .1) _)
@@ -64,7 +65,7 @@ has-length-requires : tie.Need-has-length-requires
 has-length-requires c κs = search needs
 
 returns-3 : tie.Need-returns-3
-unfolding workCheck
+unfolding workCheck lentCheck
 returns-3 c =
     let d = c .before .before in
     simp (job-at (d .before .before .before), marks-at d, sym (c .before .has-length .ensures) ∙ not-true _ (c .if1 .taken))
@@ -76,7 +77,7 @@ shr-if2 : tie.Need-shr-if2
 shr-if2 c = omega (arith, fits-at _ (job-at (c .before .before .before .before .before)) .frame .size .narrow)
 
 returns-4 : tie.Need-returns-4
-unfolding workCheck
+unfolding workCheck lentCheck
 returns-4 c =
     let d = c .before in
     simp (
@@ -87,7 +88,7 @@ returns-4 c =
     )
 
 returns-5 : tie.Need-returns-5
-unfolding workCheck
+unfolding workCheck lentCheck
 returns-5 c =
     let d = c .before in
     simp (

@@ -5,7 +5,8 @@ use mathlib.Core.Path.{_≡_, refl, sym, _∙_}
 use mathlib.Core.Logic.{⊎-elim}
 use lib.ListN.{length}
 use Rattle.rule.specs.Rule.{Holds, nextUnder}
-use Rattle.solver.specs.Calls.{worksOn}
+use Rattle.service.specs.Service.{worksOn}
+use Rattle.solver.specs.Units.{grid}
 use Rattle.solver.specs.Inner.{Lent, lentState}
 use Rattle.solver.proofs.Steps.{works-moved, works-turned, works-spent, works-over, lent-moved, rule-moved}
 use borrow.Author.Needs.{needs}
@@ -14,7 +15,7 @@ use Rattle.solver.proofs.working.work_on.Tie as tie
 
 abbrev Inv-loop : tie.InvT-loop
 Inv-loop givens table₀ board₀ allowance next job₀ left₀ table board job left =
-    (worksOn givens left (lentState job table board) ≡ worksOn givens allowance (lentState job₀ table₀ board₀)) ×
+    (worksOn grid givens left (lentState job table board) ≡ worksOn grid givens allowance (lentState job₀ table₀ board₀)) ×
     (length table ≡ length table₀) ×
     (length board ≡ length board₀) ×
     Lent job givens table board ×

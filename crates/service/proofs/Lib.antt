@@ -1,0 +1,7 @@
+-- The laws of calls and lists of calls, and the proof of the theorem.
+-- Assumes nothing.
+pub mod Calls
+pub mod Units
+pub mod Lists
+pub mod Demand
+pub mod JobKinds

@@ -1,0 +1,129 @@
+-- A job's units by its setup are the units of row elimination's machine: once for any kind of job.
+-- Assumes nothing.
+use mathlib.Core.Path.{_≡_, refl, sym, _∙_, ap, ap₂, subst}
+use mathlib.Core.Bool.{Bool, true, false, cond, true≢false}
+use mathlib.Core.List.{List}
+use Prim.Native.Nat.{ℕ, zero, suc, _+_, _-_, _<_}
+use native.Mathlib.Numerals.{add-one}
+use native.Mathlib.Omega.{arith}
+use lib.Dec.{ltb}
+use Rattle.board.specs.Answers.{Answer}
+use Rattle.elimination.specs.Candidates.{Choice, nothing, chosen, Comparison, Found, noneFound, bestFound}
+use Rattle.elimination.specs.Endings.{Laws}
+use Rattle.elimination.specs.Kind.{Kind, choose, offer}
+use Rattle.elimination.specs.Table.{reads}
+use Rattle.elimination.specs.Task.{Task, fill, row}
+use Rattle.elimination.specs.Job.{Mark, running, finished, infeasible, endMark, Setup, takeRow, act, actIf, unit, machine}
+use Rattle.elimination.specs.Job as Elimination
+use Rattle.elimination.proofs.Candidates.{scan-finds-best}
+use Rattle.elimination.proofs.Kind.{choose-scan}
+use Rattle.job.specs.Jobs.{aboveOf, lastOf, liveOf, markOf, numbersOf, jobOf, jobFits, checkpointFits}
+use Rattle.job.specs.declared.Stage.{Stage}
+use Rattle.job.specs.declared.Job.{Job}
+use Rattle.job.specs.declared.Checkpoint.{Checkpoint}
+use Rattle.job.proofs.Checkpoints.{numbers-of-job, resumed-fits}
+use Rattle.service.specs.Service.{unfinished, stageSays, State, Step, next, spoiled, Service}
+use Rattle.service.specs.Laws.{Follows}
+use Rattle.service.specs.Units.{entryNumbers, rowNumbers, noneNumbers, rowStep, taskStep, markStep, unitBy, Continues}
+
+-- ---- the machine's view
+abbrev pub markIn : ℕ → Mark
+markIn zero = running
+markIn (suc zero) = finished
+markIn (suc (suc m)) = infeasible
+
+abbrev pub viewOf : Checkpoint → List ℕ → List ℕ → Elimination.State ℕ (List ℕ)
+viewOf t table board =
+    record { units = t .units; above = t .above; last = t .last; soFar = t .live; mark = markIn (t .mark); table = table; board = board }
+
+abbrev pub view : State (List ℕ) → Elimination.State ℕ (List ℕ)
+view s = viewOf (numbersOf (s .job)) (s .table) (s .board)
+
+-- the view of a job of numbers that fit is theirs
+view-of : (t : Checkpoint) (table board : List ℕ) → checkpointFits t ≡ true → view (record { job = jobOf t; table = table; board = board }) ≡ viewOf t table board
+view-of t table board f = ap (λ (n : Checkpoint). viewOf n table board) (numbers-of-job t f)
+
+mark-more : (b : Bool) → markIn (cond b 0 1) ≡ cond b running finished
+mark-more true = refl
+mark-more false = refl
+
+pub running-mark : (s : Stage) → endMark (markIn (markOf s)) ≡ false → stageSays s ≡ unfinished
+running-mark Stage.Filling e = refl
+running-mark (Stage.Choosing above last live) e = refl
+running-mark (Stage.Finished above last score) e = absurd (true≢false e)
+running-mark Stage.Infeasible e = absurd (true≢false e)
+
+-- ---- a row that is chosen is one
+abbrev RowBelow : ℕ → Choice ℕ → Type 0
+RowBelow m nothing = Unit {0}
+RowBelow m (chosen c n) = c < m
+
+module _ (J : Setup ℕ (List ℕ)) (L : Laws (J .kind) (J .height)) (Of : Job → Type 0) (C : Continues J Of) where
+  row-below : (k a b : ℕ) (read : ℕ → ℕ) → RowBelow (J .kind .codes) (choose (J .kind) k a b read)
+  row-below k a b read =
+      subst (RowBelow (J .kind .codes)) (sym (choose-scan (J .kind) k a b read))
+      (go (scan-finds-best (J .kind .comparison) (L .ordered) (L .merge-tied) (offer (J .kind) k a b read) (J .kind .codes)))
+    where
+      go : {o : Choice ℕ} → Found (J .kind .comparison) (offer (J .kind) k a b read) (J .kind .codes) o → RowBelow (J .kind .codes) o
+      go (noneFound f) = tt
+      go (bestFound r y B) = B .inside
+
+  -- a job of the setup that fits
+  pub record Here (s : State (List ℕ)) : Type 0 where
+    pub of : Of (s .job)
+    pub taken : jobFits (s .job) ≡ true
+
+  -- a unit that is done, and one that can't be
+  abbrev pub Steps : Step (List ℕ) → State (List ℕ) → Type 0
+  Steps (next s′) s = Here s′ × (view s′ ≡ machine J .unit (view s))
+  Steps spoiled s = (machine J .unit (view s) ≡ view s) × (Elimination.ended (view s) ≡ false)
+
+  moved : (s : State (List ℕ)) → Here s → (t : Checkpoint) → t .width ≡ s .job .width → t .height ≡ s .job .height → t .births ≡ s .job .rule .births
+      → t .survivals ≡ s .job .rule .survivals → checkpointFits t ≡ true → (table board : List ℕ) → viewOf t table board ≡ machine J .unit (view s)
+      → Steps (next record { job = jobOf t; table = table; board = board }) s
+  moved s H t w h b v f table board e =
+      (record { of = C .same (s .job) t (H .of) w h b v; taken = resumed-fits t f }, view-of t table board f ∙ e)
+
+  row-law : (s : State (List ℕ)) → Here s → markOf (s .job .stage) ≡ 0 → (r source : ℕ) → J .plan (s .job .units) ≡ row r source
+      → (o : Choice ℕ) → RowBelow (J .kind .codes) o → machine J .unit (view s) ≡ takeRow J r (view s) o → Steps (rowStep J r s o) s
+  row-law s H m r source p (chosen c v) l e =
+      let n = J .kind .add (J .height - suc r) c (liveOf (s .job .stage)) in
+      moved s H (rowNumbers (J .height) r (s .job) c n) refl refl refl refl (C .after-row (s .job) (H .of) (H .taken) m r source p c l) (s .table) (J .write r c (s .board))
+      (rw (add-one (s .job .units), mark-more (ltb (r + 1) (J .height)), add-one r) (sym e))
+  row-law s H m zero source p nothing l e =
+      moved s H (noneNumbers (s .job)) refl refl refl refl (C .after-none (s .job) (H .of) (H .taken) m source p) (s .table) (s .board) (rw (add-one (s .job .units)) (sym e))
+  row-law s H m (suc r) source p nothing l e = (e, rw m)
+
+  task-law : (s : State (List ℕ)) → Here s → markOf (s .job .stage) ≡ 0 → (o : Task) → J .plan (s .job .units) ≡ o
+      → machine J .unit (view s) ≡ act J o (view s) → Steps (taskStep J o s) s
+  task-law s H m (fill k source target i) p e =
+      moved s H (entryNumbers (s .job)) refl refl refl refl (C .after-entry (s .job) (H .of) (H .taken) m k source target i p) _ (s .board) (rw (add-one (s .job .units)) (sym e))
+  task-law s H m (row r source) p e =
+      let a = aboveOf (s .job .stage) in
+      let b = lastOf (s .job .stage) in
+      let read = reads (J .kind) (s .table) source b in
+      row-law s H m r source p (choose (J .kind) (J .height - suc r) a b read) (row-below (J .height - suc r) a b read) e
+
+  pub unit-law : (s : State (List ℕ)) → Here s → Steps (unitBy J s) s
+  unfolding unitBy unit
+  unit-law s H = go (markOf (s .job .stage)) refl
+    where
+      go : (m : ℕ) → markOf (s .job .stage) ≡ m → Steps (markStep J m (J .plan (s .job .units)) s) s
+      go zero e = task-law s H e (J .plan (s .job .units)) refl (rw e)
+      go (suc zero) e = (H, rw e)
+      go (suc (suc m)) e = (H, rw e)
+
+-- so a job follows the machine, where its service's units are its setup's: once for any kind of job
+abbrev pub follows : (Given : Type 0) (check : Job → Given → List ℕ → List ℕ → Answer) (unitOf : Given → State (List ℕ) → Step (List ℕ)) (given : Given)
+    (J : Setup ℕ (List ℕ)) (L : Laws (J .kind) (J .height)) (Of : Job → Type 0) (C : Continues J Of)
+    → ((s : State (List ℕ)) → Of (s .job) → unitOf given s ≡ unitBy J s)
+    → Follows (record { Given = Given; Table = List ℕ; check = check; unit = unitOf }) given (machine J)
+follows Given check unitOf given J L Of C is = record {
+  view = view;
+  Here = Here J L Of C;
+  fits = λ s H. H .taken;
+  units = λ s. refl;
+  running = λ s e. running-mark (s .job .stage) e;
+  moves = λ s s′ H e. subst (λ (o : Step (List ℕ)). Steps J L Of C o s) (sym (is s (H .of)) ∙ e) (unit-law J L Of C s H);
+  stands = λ s H e. subst (λ (o : Step (List ℕ)). Steps J L Of C o s) (sym (is s (H .of)) ∙ e) (unit-law J L Of C s H);
+}
