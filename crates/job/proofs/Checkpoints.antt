@@ -71,10 +71,7 @@ unfolding stageOf rowsChosen
 numbers-back t e = go (t .mark) (numbers-at t e .units) refl
   where
     filling : t .mark ≡ 0 → (b : Bool) → ltb (t .units) (tableSize (t .width) (t .height)) ≡ b → jobSays (jobOf t) ≡ checkpointSays t
-    filling m true r =
-        let l : t .units ≤ tableSize (t .width) (t .height) = omega (arith, ltb-true (t .units) (tableSize (t .width) (t .height)) r) in
-        let n = no-rows (numbers-at t e .rows) (rw m (omega arith)) in
-        rw (m, r, n .over, n .below, n .few)
+    filling m true r = rw (m, r)
     filling m false r = rw (m, r)
 
     go : (mark : ℕ) → UnitsFit (t .width) (t .height) (t .units) mark → t .mark ≡ mark → jobSays (jobOf t) ≡ checkpointSays t

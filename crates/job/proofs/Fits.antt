@@ -147,8 +147,14 @@ pub record Finished (w h u above last score : ℕ) : Type 0 where
   pub whole : u ≡ tableSize w h + h
   pub rows : RowsFit w h above last score
 
+pub record Early (w h u above last live : ℕ) : Type 0 where
+  pub over : above < 2 ^ w
+  pub below : last < 2 ^ w
+  pub until : u < tableSize w h
+  pub rows : RowsFit w (u - tableSize w h) above last live
+
 abbrev pub Fits : ℕ → ℕ → ℕ → Stage → Type 0
-Fits w h u Stage.Filling = u < tableSize w h
+Fits w h u (Stage.Filling above last live) = Early w h u above last live
 Fits w h u (Stage.Choosing above last live) = Choosing w h u above last live
 Fits w h u (Stage.Finished above last score) = Finished w h u above last score
 Fits w h u Stage.Infeasible = u ≡ tableSize w h + 1
@@ -157,12 +163,12 @@ abbrev pub jobAt : Rule → ℕ → ℕ → ℕ → Stage → Job
 jobAt rule w h u s = record { rule = rule; width = w; height = h; units = u; stage = s }
 
 -- no row is chosen
-no-rows : {w k : ℕ} → RowsFit w k 0 0 0
+pub no-rows : {w k : ℕ} → RowsFit w k 0 0 0
 no-rows = record { few = omega arith; none = λ q. refl; one = λ q. refl }
 
 numbers-fit : (rule : Rule) (w h u : ℕ) (s : Stage) → Frame rule w h → Fits w h u s → NumbersFit (numbersOf (jobAt rule w h u s))
 unfolding rowsChosen
-numbers-fit rule w h u Stage.Filling z f = record { frame = z; over = pow-pos w; below = pow-pos w; units = runs (omega arith); rows = no-rows }
+numbers-fit rule w h u (Stage.Filling above last live) z f = record { frame = z; over = f .over; below = f .below; units = runs (omega (arith, f .until)); rows = f .rows }
 numbers-fit rule w h u (Stage.Choosing above last live) z f =
     record { frame = z; over = f .over; below = f .below; units = runs (f .until); rows = f .rows }
 numbers-fit rule w h u (Stage.Finished above last score) z f =
@@ -171,7 +177,7 @@ numbers-fit rule w h u (Stage.Finished above last score) z f =
 numbers-fit rule w h u Stage.Infeasible z f = record { frame = z; over = pow-pos w; below = pow-pos w; units = fails f; rows = no-rows }
 
 stage-fits : (w h u : ℕ) (s : Stage) → Fits w h u s → stageFits w h u s ≡ true
-stage-fits w h u Stage.Filling f = lt-ltb u (tableSize w h) f
+stage-fits w h u (Stage.Filling above last live) f = lt-ltb u (tableSize w h) (f .until)
 stage-fits w h u (Stage.Choosing above last live) f = le-leb (tableSize w h) u (f .from)
 stage-fits w h u (Stage.Finished above last score) f = refl
 stage-fits w h u Stage.Infeasible f = refl
@@ -187,7 +193,8 @@ pub record Taken (rule : Rule) (w h u : ℕ) (s : Stage) : Type 0 where
 
 taken-at : (rule : Rule) (w h u : ℕ) (s : Stage) → NumbersFit (numbersOf (jobAt rule w h u s)) → stageFits w h u s ≡ true → Taken rule w h u s
 unfolding rowsChosen
-taken-at rule w h u Stage.Filling f e = record { frame = f .frame; stage = ltb-true u (tableSize w h) e }
+taken-at rule w h u (Stage.Filling above last live) f e =
+    record { frame = f .frame; stage = record { over = f .over; below = f .below; until = ltb-true u (tableSize w h) e; rows = f .rows } }
 taken-at rule w h u (Stage.Choosing above last live) f e =
     record { frame = f .frame; stage = record { over = f .over; below = f .below; from = leb-true (tableSize w h) u e; until = go (f .units); rows = f .rows } }
   where
@@ -218,7 +225,7 @@ fits-at j e =
 -- ---- pausing and resuming
 stage-back : (rule : Rule) (w h u : ℕ) (s : Stage) → Fits w h u s → stageOf (numbersOf (jobAt rule w h u s)) ≡ s
 unfolding stageOf
-stage-back rule w h u Stage.Filling f = rw (lt-ltb u (tableSize w h) f)
+stage-back rule w h u (Stage.Filling above last live) f = rw (lt-ltb u (tableSize w h) (f .until))
 stage-back rule w h u (Stage.Choosing above last live) f = rw (le-ltb u (tableSize w h) (f .from))
 stage-back rule w h u (Stage.Finished above last score) f = refl
 stage-back rule w h u Stage.Infeasible f = refl

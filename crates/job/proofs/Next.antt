@@ -14,7 +14,7 @@ use Rattle.job.specs.Jobs.{jobFits, chosenTo, afterEntry, afterRow, afte
 use Rattle.job.specs.declared.Stage.{Stage}
 use Rattle.job.specs.declared.Job.{Job}
 use Rattle.job.specs.declared.Done.{Done}
-use Rattle.job.proofs.Fits.{Frame, RowsFit, Choosing, Fits, jobAt, fits-of, fits-at}
+use Rattle.job.proofs.Fits.{Frame, RowsFit, Early, Choosing, Fits, jobAt, fits-of, fits-at}
 
 -- ---- the stage after a row, as the code makes it
 pub chosen-on : (r h last c n : ℕ) → r + 1 < h → (s : Stage) → s ≡ Stage.Choosing last c n → s ≡ chosenTo h (r + 1) last c n
@@ -25,18 +25,21 @@ chosen-over r h last c n l s p = rw (le-ltb (r + 1) h l) p
 
 -- ---- the stage after a unit fits
 module _ {rule : Rule} {w h : ℕ} (z : Frame rule w h) where
-  pub entry-fits : (u : ℕ) → u < tableSize w h → Fits w h (u + 1) (afterEntry rule w h u .stage)
-  entry-fits u l = go (ltb (u + 1) (tableSize w h)) refl
+  pub entry-fits : (u above last live : ℕ) → Early w h u above last live → Fits w h (u + 1) (afterEntry rule w h u above last live .stage)
+  entry-fits u above last live F = go (ltb (u + 1) (tableSize w h)) refl
     where
-      go : (b : Bool) → ltb (u + 1) (tableSize w h) ≡ b → Fits w h (u + 1) (cond b Stage.Filling (Stage.Choosing 0 0 0))
-      go true e = ltb-true (u + 1) (tableSize w h) e
+      same : u + 1 - tableSize w h ≡ u - tableSize w h
+      same = omega (arith, F .until)
+
+      go : (b : Bool) → ltb (u + 1) (tableSize w h) ≡ b → Fits w h (u + 1) (cond b (Stage.Filling above last live) (Stage.Choosing above last live))
+      go true e = record { over = F .over; below = F .below; until = ltb-true (u + 1) (tableSize w h) e; rows = rw same (F .rows) }
       go false e =
           let le : tableSize w h ≤ u + 1 = ltb-false (u + 1) (tableSize w h) e in record {
-            over = pow-pos w;
-            below = pow-pos w;
+            over = F .over;
+            below = F .below;
             from = le;
-            until = omega (arith, z .size .some-row);
-            rows = record { few = omega arith; none = λ q. refl; one = λ q. refl };
+            until = omega (arith, z .size .some-row, F .until);
+            rows = rw same (F .rows);
           }
 
   module _ {u above last live : ℕ} (F : Choosing w h u above last live) where
@@ -64,7 +67,7 @@ module _ (j : Job) (f : jobFits j ≡ true) where
   pub fits-size : (j .width ≤ 10) × (j .height ≤ 60)
   fits-size = let z = fits-at j f .frame .size in (z .narrow, z .low)
 
-  pub fits-filling : j .stage ≡ Stage.Filling → j .units < tableSize (j .width) (j .height)
+  pub fits-filling : {above last live : ℕ} → j .stage ≡ Stage.Filling above last live → Early (j .width) (j .height) (j .units) above last live
   fits-filling e = rw e at (fits-at j f .stage)
 
   pub fits-choosing : {above last live : ℕ} → j .stage ≡ Stage.Choosing above last live → Choosing (j .width) (j .height) (j .units) above last live
@@ -81,8 +84,8 @@ module _ (j : Job) (f : jobFits j ≡ true) where
   unfolding nextJob
   next-is s e done d p = rw (f, e, p)
 
-  pub next-entry : j .stage ≡ Stage.Filling → nextJob j Done.Entry ≡ afterEntry (j .rule) (j .width) (j .height) (j .units)
-  next-entry e = next-is Stage.Filling e Done.Entry Done.Entry refl
+  pub next-entry : {above last live : ℕ} → j .stage ≡ Stage.Filling above last live → nextJob j Done.Entry ≡ afterEntry (j .rule) (j .width) (j .height) (j .units) above last live
+  next-entry {above} {last} {live} e = next-is (Stage.Filling above last live) e Done.Entry Done.Entry refl
 
   module _ {above last live : ℕ} (e : j .stage ≡ Stage.Choosing above last live) where
     pub next-row : (r : ℕ) → r ≡ j .units - tableSize (j .width) (j .height) → (c n : ℕ) → c < 2 ^ j .width → n ≤ j .width

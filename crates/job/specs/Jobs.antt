@@ -29,25 +29,25 @@ noneLength w h = h * 4 ^ w + 1
 -- ---- the nine numbers of a job
 -- row above, last row, live cells so far and end mark of a stage
 abbrev pub aboveOf : Stage → ℕ
-aboveOf Stage.Filling = 0
+aboveOf (Stage.Filling above last live) = above
 aboveOf (Stage.Choosing above last live) = above
 aboveOf (Stage.Finished above last score) = above
 aboveOf Stage.Infeasible = 0
 
 abbrev pub lastOf : Stage → ℕ
-lastOf Stage.Filling = 0
+lastOf (Stage.Filling above last live) = last
 lastOf (Stage.Choosing above last live) = last
 lastOf (Stage.Finished above last score) = last
 lastOf Stage.Infeasible = 0
 
 abbrev pub liveOf : Stage → ℕ
-liveOf Stage.Filling = 0
+liveOf (Stage.Filling above last live) = live
 liveOf (Stage.Choosing above last live) = live
 liveOf (Stage.Finished above last score) = score
 liveOf Stage.Infeasible = 0
 
 abbrev pub markOf : Stage → ℕ
-markOf Stage.Filling = 0
+markOf (Stage.Filling above last live) = 0
 markOf (Stage.Choosing above last live) = 0
 markOf (Stage.Finished above last score) = 1
 markOf Stage.Infeasible = 2
@@ -105,7 +105,7 @@ checkpointFits t =
 
 -- a running job is filling while its units are below h × 4^w and choosing from there on
 abbrev pub stageFits : ℕ → ℕ → ℕ → Stage → Bool
-stageFits w h units Stage.Filling = ltb units (tableSize w h)
+stageFits w h units (Stage.Filling above last live) = ltb units (tableSize w h)
 stageFits w h units (Stage.Choosing above last live) = leb (tableSize w h) units
 stageFits w h units (Stage.Finished above last score) = true
 stageFits w h units Stage.Infeasible = true
@@ -117,14 +117,14 @@ jobFits j = checkpointFits (numbersOf j) && stageFits (j .width) (j .height) (j 
 -- ---- opening, pausing, resuming
 -- the job that opening hands out, at unit 0
 abbrev pub start : Rule → ℕ → ℕ → Job
-start rule w h = record { rule = rule; width = w; height = h; units = 0; stage = Stage.Filling }
+start rule w h = record { rule = rule; width = w; height = h; units = 0; stage = Stage.Filling 0 0 0 }
 
 -- the job that resuming hands out
 unfoldable pub stageOf : Checkpoint → Stage
 stageOf t =
     cond (eqb (t .mark) 1) (Stage.Finished (t .above) (t .last) (t .live))
     (cond (eqb (t .mark) 2) Stage.Infeasible
-    (cond (ltb (t .units) (tableSize (t .width) (t .height))) Stage.Filling (Stage.Choosing (t .above) (t .last) (t .live))))
+    (cond (ltb (t .units) (tableSize (t .width) (t .height))) (Stage.Filling (t .above) (t .last) (t .live)) (Stage.Choosing (t .above) (t .last) (t .live))))
 
 abbrev pub jobOf : Checkpoint → Job
 jobOf t = record { rule = ruleOf t; width = t .width; height = t .height; units = t .units; stage = stageOf t }
@@ -143,16 +143,16 @@ resumeRule t = refuseUnless (checkpointFits t) 7 then gives (checkpointSays t)
 
 -- ---- the job after a unit
 -- the stage once u entries are written
-abbrev pub filledTo : ℕ → ℕ → ℕ → Stage
-filledTo w h u = cond (ltb u (tableSize w h)) Stage.Filling (Stage.Choosing 0 0 0)
+abbrev pub filledTo : ℕ → ℕ → ℕ → ℕ → ℕ → ℕ → Stage
+filledTo w h u above last live = cond (ltb u (tableSize w h)) (Stage.Filling above last live) (Stage.Choosing above last live)
 
 -- the stage once k rows are chosen, the last two of them `above` and `last`, worth n
 abbrev pub chosenTo : ℕ → ℕ → ℕ → ℕ → ℕ → Stage
 chosenTo h k above last n = cond (ltb k h) (Stage.Choosing above last n) (Stage.Finished above last n)
 
 -- after unit u: its entry is written; row c is chosen below `last` with r rows above it, and all are worth n; no row can be chosen as row 1
-abbrev pub afterEntry : Rule → ℕ → ℕ → ℕ → Job
-afterEntry rule w h u = record { rule = rule; width = w; height = h; units = u + 1; stage = filledTo w h (u + 1) }
+abbrev pub afterEntry : Rule → ℕ → ℕ → ℕ → ℕ → ℕ → ℕ → Job
+afterEntry rule w h u above last live = record { rule = rule; width = w; height = h; units = u + 1; stage = filledTo w h (u + 1) above last live }
 
 abbrev pub afterRow : Rule → ℕ → ℕ → ℕ → ℕ → ℕ → ℕ → ℕ → Job
 afterRow rule w h u r last c n = record { rule = rule; width = w; height = h; units = u + 1; stage = chosenTo h (r + 1) last c n }
@@ -171,9 +171,9 @@ abbrev pub noneDone : Job → Job
 noneDone j = cond (eqb (j .units) (tableSize (j .width) (j .height))) (afterNone (j .rule) (j .width) (j .height) (j .units)) j
 
 abbrev pub doneIn : Job → Stage → Done → Job
-doneIn j Stage.Filling Done.Entry = afterEntry (j .rule) (j .width) (j .height) (j .units)
-doneIn j Stage.Filling (Done.Row row worth) = j
-doneIn j Stage.Filling Done.NoRow = j
+doneIn j (Stage.Filling above last live) Done.Entry = afterEntry (j .rule) (j .width) (j .height) (j .units) above last live
+doneIn j (Stage.Filling above last live) (Done.Row row worth) = j
+doneIn j (Stage.Filling above last live) Done.NoRow = j
 doneIn j (Stage.Choosing above last live) Done.Entry = j
 doneIn j (Stage.Choosing above last live) (Done.Row row worth) = rowDone j last live row worth
 doneIn j (Stage.Choosing above last live) Done.NoRow = noneDone j

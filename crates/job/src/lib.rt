@@ -13,7 +13,11 @@ ghost use Rattle.job.specs.Calls.{Opens, Pauses, Resumes};
 
 // What a job does next, with that stage's numbers: the last two rows chosen, and the live cells so far that were free.
 pub enum Stage {
-    Filling,
+    Filling {
+        above: usize,
+        last: usize,
+        live: usize,
+    },
     Choosing {
         above: usize,
         last: usize,
@@ -89,7 +93,11 @@ pub fn open(rule: Rule, width: usize, height: usize, givens: &[u8]) -> Opened
         width,
         height,
         units: 0,
-        stage: Stage::Filling,
+        stage: Stage::Filling {
+            above: 0,
+            last: 0,
+            live: 0,
+        },
     })
 }
 
@@ -134,8 +142,8 @@ impl Job {
         }
         let stage = job.stage;
         match stage {
-            Stage::Filling => match done {
-                Done::Entry => units::after_entry(job),
+            Stage::Filling { above, last, live } => match done {
+                Done::Entry => units::after_entry(job, above, last, live),
                 Done::Row { row: _, worth: _ } => job,
                 Done::NoRow => job,
             },

@@ -98,7 +98,11 @@ fn stage_fits(w: usize, h: usize, units: usize, stage: Stage) -> bool
 {
     let entries = table_size(w, h);
     match stage {
-        Stage::Filling => units < entries,
+        Stage::Filling {
+            above: _,
+            last: _,
+            live: _,
+        } => units < entries,
         Stage::Choosing {
             above: _,
             last: _,
@@ -135,13 +139,13 @@ pub fn numbers_of(job: Job) -> Checkpoint
     let units = job.units;
     let stage = job.stage;
     match stage {
-        Stage::Filling => Checkpoint {
+        Stage::Filling { above, last, live } => Checkpoint {
             width,
             height,
             units,
-            above: 0,
-            last: 0,
-            live: 0,
+            above,
+            last,
+            live,
             mark: 0,
             births,
             survivals,
@@ -197,7 +201,11 @@ pub fn stage_of(t: Checkpoint) -> Stage
         2 => Stage::Infeasible,
         _ => {
             if t.units < table_size(t.width, t.height) {
-                Stage::Filling
+                Stage::Filling {
+                    above: t.above,
+                    last: t.last,
+                    live: t.live,
+                }
             } else {
                 Stage::Choosing {
                     above: t.above,

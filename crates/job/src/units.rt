@@ -8,9 +8,9 @@ ghost use Rattle.board.specs.Checks.{tableSize};
 ghost use Rattle.job.specs.Jobs.{afterEntry, rowDone, noneDone};
 
 // After an entry.
-pub fn after_entry(job: Job) -> Job
+pub fn after_entry(job: Job, above: usize, last: usize, live: usize) -> Job
     requires { ⌜ (job .width ≤ 10) × (job .height ≤ 60) × (job .units < tableSize (job .width) (job .height)) ⌝ }
-    ensures { λ r. ⌜ r ≡ afterEntry (job .rule) (job .width) (job .height) (job .units) ⌝ }
+    ensures { λ r. ⌜ r ≡ afterEntry (job .rule) (job .width) (job .height) (job .units) above last live ⌝ }
 {
     let rule = job.rule;
     let width = job.width;
@@ -18,13 +18,9 @@ pub fn after_entry(job: Job) -> Job
     let entries = numbers::table_size(width, height);
     let units = job.units + 1; // one entry
     let stage = if units < entries {
-        Stage::Filling
+        Stage::Filling { above, last, live }
     } else {
-        Stage::Choosing {
-            above: 0,
-            last: 0,
-            live: 0,
-        }
+        Stage::Choosing { above, last, live }
     };
     Job {
         rule,

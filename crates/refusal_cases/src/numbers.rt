@@ -28,7 +28,11 @@ pub fn filling(width: usize, units: usize) -> Job {
         width,
         height: 2,
         units,
-        stage: Stage::Filling,
+        stage: Stage::Filling {
+            above: 0,
+            last: 0,
+            live: 0,
+        },
     }
 }
 

@@ -122,7 +122,11 @@ fn print_job(job: Job) {
 
 fn print_stage(stage: Stage) {
     match stage {
-        Stage::Filling => report::text(b", filling\n"),
+        Stage::Filling {
+            above: _,
+            last: _,
+            live: _,
+        } => report::text(b", filling\n"),
         Stage::Choosing { above, last, live } => print_rows(
             b", choosing below ",
             above,

@@ -24,7 +24,7 @@ use Rattle.job.specs.declared.Job.{Job}
 use Rattle.job.specs.declared.Opened.{Opened}
 use Rattle.job.proofs.Fits.{fits-of}
 use Rattle.solver.proofs.UnitLaws.{unit-fits, unit-lent}
-use Rattle.solver.proofs.Progress.{table-pos}
+use Rattle.solver.proofs.Progress.{start-early}
 use Rattle.runner.specs.Solving.{memoryCheck}
 
 -- ---- an opened job
@@ -35,7 +35,7 @@ module _ {rule : Rule} (allowed : Allowed rule) {w h : ℕ} {g : List ℕ} (G : 
 
   pub start-check : (t β : List ℕ) → workCheck grid (start rule w h) g t β ≡ memoryCheck w h t β
   unfolding workCheck lentCheck memoryCheck
-  start-check t β = rw (fits-of rule w h 0 Stage.Filling (record { size = G .size; allowed = allowed }) (table-pos (G .size)), marks-pass (G .bytes))
+  start-check t β = rw (fits-of rule w h 0 (Stage.Filling 0 0 0) (record { size = G .size; allowed = allowed }) (start-early (G .size)), marks-pass (G .bytes))
 
 -- ---- a call that passes
 pub check-passes : (j : Job) (g t β : List ℕ) → Bytes 2 (j .width) (j .height) g → Lent j g t β → workCheck grid j g t β ≡ passed

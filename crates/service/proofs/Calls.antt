@@ -18,7 +18,7 @@ use Rattle.service.specs.Laws.{Checked, ChecksSound}
 
 -- a stage's answer is no refusal
 pub never-refused : (s : Stage) {n : ℕ} {values : List ℕ} → stageSays s ≡ refuses n values → ⊥
-never-refused Stage.Filling e = refuses-none (sym e)
+never-refused (Stage.Filling a l n) e = refuses-none (sym e)
 never-refused (Stage.Choosing above last soFar) e = refuses-none (sym e)
 never-refused (Stage.Finished above last score) e = refuses-none (sym e)
 never-refused Stage.Infeasible e = refuses-none (sym e)

@@ -37,13 +37,13 @@ use Rattle.service.proofs.Demand.{meets-demand}
 
 -- ---- stages
 finished-says : (s : Stage) → markIn (markOf s) ≡ finished → stageSays s ≡ Service.finished (liveOf s)
-finished-says Stage.Filling e = absurd (true≢false (sym (ap endMark e)))
+finished-says (Stage.Filling a l n) e = absurd (true≢false (sym (ap endMark e)))
 finished-says (Stage.Choosing a l n) e = absurd (true≢false (sym (ap endMark e)))
 finished-says (Stage.Finished a l n) e = refl
 finished-says Stage.Infeasible e = absurd (let z : _≡_ {A = ℕ} 0 1 = cc in omega arith)
 
 infeasible-says : (s : Stage) → markIn (markOf s) ≡ infeasible → stageSays s ≡ Service.infeasible
-infeasible-says Stage.Filling e = absurd (true≢false (sym (ap endMark e)))
+infeasible-says (Stage.Filling a l n) e = absurd (true≢false (sym (ap endMark e)))
 infeasible-says (Stage.Choosing a l n) e = absurd (true≢false (sym (ap endMark e)))
 infeasible-says (Stage.Finished a l n) e = absurd (let z : _≡_ {A = ℕ} 0 1 = cc in omega arith)
 infeasible-says Stage.Infeasible e = refl

@@ -48,7 +48,7 @@ mark-more true = refl
 mark-more false = refl
 
 pub running-mark : (s : Stage) → endMark (markIn (markOf s)) ≡ false → stageSays s ≡ unfinished
-running-mark Stage.Filling e = refl
+running-mark (Stage.Filling a l n) e = refl
 running-mark (Stage.Choosing above last live) e = refl
 running-mark (Stage.Finished above last score) e = absurd (true≢false e)
 running-mark Stage.Infeasible e = absurd (true≢false e)

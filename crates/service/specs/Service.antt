@@ -20,7 +20,7 @@ infeasible = gives (2 ∷ [])
 
 -- the answer for a job in a stage
 abbrev pub stageSays : Stage → Answer
-stageSays Stage.Filling = unfinished
+stageSays (Stage.Filling above last live) = unfinished
 stageSays (Stage.Choosing above last live) = unfinished
 stageSays (Stage.Finished above last score) = finished score
 stageSays Stage.Infeasible = infeasible

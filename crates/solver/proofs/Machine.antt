@@ -74,14 +74,16 @@ module _ {rule : Rule} {w h : ℕ} (z : Frame rule w h) (g : List ℕ) where
   numbers u s f = fits-numbers (jobAt rule w h u s) (fits-of rule w h u s z f)
 
   -- ---- an entry
-  entry-numbers : (u : ℕ) (b : Bool) → numbersOf (jobAt rule w h (u + 1) (cond b Stage.Filling (Stage.Choosing 0 0 0))) ≡ entryNumbers (jobAt rule w h u Stage.Filling)
-  entry-numbers u true = refl
-  entry-numbers u false = refl
+  entry-numbers : (u above last live : ℕ) (b : Bool) → numbersOf (jobAt rule w h (u + 1) (cond b (Stage.Filling above last live) (Stage.Choosing above last live)))
+      ≡ entryNumbers (jobAt rule w h u (Stage.Filling above last live))
+  entry-numbers u above last live true = refl
+  entry-numbers u above last live false = refl
 
   entry-at : (u : ℕ) (s : Stage) → Fits w h u s → markOf s ≡ 0 → {k source target i : ℕ} → plan h (2 ^ w * 2 ^ w) u ≡ fill k source target i
       → checkpointFits (entryNumbers (jobAt rule w h u s)) ≡ true
-  entry-at u Stage.Filling f m p =
-      ap checkpointFits (sym (entry-numbers u (ltb (u + 1) (tableSize w h)))) ∙ numbers (u + 1) (afterEntry rule w h u .stage) (entry-fits z u f)
+  entry-at u (Stage.Filling above last live) f m p =
+      ap checkpointFits (sym (entry-numbers u above last live (ltb (u + 1) (tableSize w h))))
+      ∙ numbers (u + 1) (afterEntry rule w h u above last live .stage) (entry-fits z u above last live f)
   entry-at u (Stage.Choosing above last live) f m p = not-fill rule w h g u (f .from) p
   entry-at u (Stage.Finished above last score) f m p = absurd (omega arith)
   entry-at u Stage.Infeasible f m p = absurd (omega arith)
@@ -97,7 +99,7 @@ module _ {rule : Rule} {w h : ℕ} (z : Frame rule w h) (g : List ℕ) where
 
   row-at : (u : ℕ) (s : Stage) → Fits w h u s → markOf s ≡ 0 → {r source : ℕ} → plan h (2 ^ w * 2 ^ w) u ≡ row r source → (c : ℕ) → c < 2 ^ w
       → checkpointFits (rowNumbers h r (jobAt rule w h u s) c (worth r c + Jobs.liveOf s)) ≡ true
-  row-at u Stage.Filling f m p c l = not-row rule w h g u f p
+  row-at u (Stage.Filling above last live) f m p c l = not-row rule w h g u (f .until) p
   row-at u (Stage.Choosing above last live) f m {r} p c l =
       let q = which-row rule w h g u (f .from) p in
       let b = ltb (r + 1) h in
@@ -111,7 +113,7 @@ module _ {rule : Rule} {w h : ℕ} (z : Frame rule w h) (g : List ℕ) where
   -- ---- none
   none-at : (u : ℕ) (s : Stage) → Fits w h u s → markOf s ≡ 0 → {source : ℕ} → plan h (2 ^ w * 2 ^ w) u ≡ row 0 source
       → checkpointFits (noneNumbers (jobAt rule w h u s)) ≡ true
-  none-at u Stage.Filling f m p = not-row rule w h g u f p
+  none-at u (Stage.Filling above last live) f m p = not-row rule w h g u (f .until) p
   none-at u (Stage.Choosing above last live) f m p =
       let q = which-row rule w h g u (f .from) p in
       let none : last ≡ 0 = f .rows .none q in

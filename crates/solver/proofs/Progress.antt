@@ -1,7 +1,7 @@
 -- What is done by now, in the terms of a grid's table and board, from what the units of any plan leave.
 -- Assumes nothing.
 use mathlib.Core.Path.{_≡_, refl, sym, _∙_, ap, ap₂, subst}
-use mathlib.Core.Bool.{true}
+use mathlib.Core.Bool.{Bool, true, false, true≢false}
 use mathlib.Core.List.{List}
 use mathlib.Core.Logic.{⊎-elim}
 use Prim.Native.Nat.{ℕ, suc, _+_, _*_, _-_, _^_, _≤_, _<_, min}
@@ -22,7 +22,7 @@ use Rattle.elimination.proofs.Whole.{stands, writes-not}
 use Rattle.rule.specs.declared.Rule.{Rule}
 use Rattle.job.specs.Jobs.{markOf}
 use Rattle.job.specs.declared.Stage.{Stage}
-use Rattle.job.proofs.Fits.{Frame, Fits}
+use Rattle.job.proofs.Fits.{Frame, Fits, no-rows}
 use Rattle.score_table.proofs.Places.{table-four, place-same}
 use Rattle.solver.specs.Units.{State}
 use Rattle.solver.specs.Demand.{Filled, Written, chosenIn, chosenRows, idleUnits, Progress, Of}
@@ -36,9 +36,13 @@ table-pos {w} {h} z =
     let m : 1 * 1 ≤ h * (2 ^ w * 2 ^ w) = mul-le-mul (z .some-row) q in
     omega (arith, table-four w h)
 
+-- an opened job fits
+pub start-early : {w h : ℕ} → Sized w h → Fits w h 0 (Stage.Filling 0 0 0)
+start-early {w} {h} z = record { over = pow-pos w; below = pow-pos w; until = table-pos z; rows = no-rows }
+
 -- the units done are the entries written and the rows chosen
 units-split : (w h u : ℕ) (s : Stage) → Fits w h u s → u ≡ min u (tableSize w h) + chosenIn s (u - tableSize w h) + idleUnits s
-units-split w h u Stage.Filling f = omega arith
+units-split w h u (Stage.Filling a l n) f = omega (arith, f .until)
 units-split w h u (Stage.Choosing a l n) f = omega (arith, f .from)
 units-split w h u (Stage.Finished a l n) f = omega (arith, f .whole)
 units-split w h u Stage.Infeasible f = omega arith
@@ -55,10 +59,22 @@ table-filled rule w h g m t₀ t F = record {
   rest = λ p f. F .rest p (λ v l. writes-not h (2 ^ w * 2 ^ w) v p (λ b e. f v (omega (arith, table-four w h)) (e ∙ sym (place-same w h v))));
 }
 
+abbrev isFilling : Stage → Bool
+isFilling (Stage.Filling above last live) = true
+isFilling (Stage.Choosing above last live) = false
+isFilling (Stage.Finished above last score) = false
+isFilling Stage.Infeasible = false
+
+early : (w h u : ℕ) (s : Stage) → Fits w h u s → isFilling s ≡ true → u ≤ tableSize w h
+early w h u (Stage.Filling a l n) f e = omega (arith, f .until)
+early w h u (Stage.Choosing a l n) f e = absurd (true≢false (sym e))
+early w h u (Stage.Finished a l n) f e = absurd (true≢false (sym e))
+early w h u Stage.Infeasible f e = absurd (true≢false (sym e))
+
 -- the board
 board-written : (w u : ℕ) (entries : ℕ) (s : Stage) (wanted β γ : List ℕ) → (s ≡ Stage.Infeasible → wanted ≡ β)
-    → Elimination.Written w (u - entries) wanted β γ → (Stage.Filling ≡ s → u ≤ entries) → Written w (chosenIn s (u - entries)) wanted β γ
-board-written w u entries Stage.Filling wanted β γ n E f =
+    → Elimination.Written w (u - entries) wanted β γ → (isFilling s ≡ true → u ≤ entries) → Written w (chosenIn s (u - entries)) wanted β γ
+board-written w u entries (Stage.Filling a l m) wanted β γ n E f =
     let k : u - entries ≡ 0 = omega (arith, f refl) in
     let E₀ = rw k at E in record { size = E₀ .size; rows = E₀ .rows; rest = E₀ .rest }
 board-written w u entries (Stage.Choosing a l m) wanted β γ n E f = record { size = E .size; rows = E .rows; rest = E .rest }
@@ -81,5 +97,5 @@ module _ {rule : Rule} {w h : ℕ} (z : Frame rule w h) (g : List ℕ) where
     units = units-split w h (now .job .units) (now .job .stage) f;
     filled = table-filled rule w h g (now .job .units) (before .table) (now .table) F;
     written = board-written w (now .job .units) (tableSize w h) (now .job .stage) wanted (before .board) (now .board) (λ e. n (ap markOf e)) E
-        (λ e. let l : now .job .units < tableSize w h = subst (Fits w h (now .job .units)) (sym e) f in omega arith);
+        (early w h (now .job .units) (now .job .stage) f);
   }

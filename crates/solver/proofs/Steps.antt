@@ -68,10 +68,10 @@ module _ (j : Job) (g t β : List ℕ) where
   abbrev grids : Setup ℕ (List ℕ)
   grids = setupOf (j .rule) w h g
 
-  unit-fill : j .stage ≡ Stage.Filling → j .units < tableSize w h
-      → unitOf g here ≡ next (lentState (afterEntry (j .rule) w h (j .units)) (set t (unitPlace w h (j .units)) (unitEntry (nextUnder (j .rule)) w h g t (j .units))) β)
+  unit-fill : (above last live : ℕ) → j .stage ≡ Stage.Filling above last live → j .units < tableSize w h
+      → unitOf g here ≡ next (lentState (afterEntry (j .rule) w h (j .units) above last live) (set t (unitPlace w h (j .units)) (unitEntry (nextUnder (j .rule)) w h g t (j .units))) β)
   unfolding unitOf unitBy stageOf fillEntry Filling.place
-  unit-fill e l =
+  unit-fill above last live e l =
       let p : plan h layer (j .units) ≡ fillAt h layer (j .units) = plan-fill h layer (j .units) (rw (table-four w h) at l) in
       rw (e, p, entry-same (j .rule) w h g t (j .units), place-same w h (j .units))
 
@@ -85,10 +85,10 @@ module _ (j : Job) (g t β : List ℕ) where
 
 -- ---- a unit, by stage
 module _ (j : Job) (g t β : List ℕ) where
-  pub moves-fill : jobFits j ≡ true → j .stage ≡ Stage.Filling → (j′ : Job) → j′ ≡ nextJob j Done.Entry
+  pub moves-fill : {above last live : ℕ} → jobFits j ≡ true → j .stage ≡ Stage.Filling above last live → (j′ : Job) → j′ ≡ nextJob j Done.Entry
       → (t′ : List ℕ) → t′ ≡ set t (unitPlace (j .width) (j .height) (j .units)) (unitEntry (nextUnder (j .rule)) (j .width) (j .height) g t (j .units))
       → Moves j g t β (Stepped.Next j′) t′ β
-  moves-fill f e j′ p t′ q = record { step = rw (p, next-entry j f e, q) (sym (unit-fill j g t β e (fits-filling j f e))); same = next-not-spoiled }
+  moves-fill {above} {last} {live} f e j′ p t′ q = record { step = rw (p, next-entry j f e, q) (sym (unit-fill j g t β above last live e (fits-filling j f e .until))); same = next-not-spoiled }
 
   -- an ended job stays
   pub moves-ended : hasEnded (j .stage) ≡ true → Moves j g t β (Stepped.Next j) t β

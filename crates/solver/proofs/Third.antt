@@ -38,7 +38,7 @@ use Rattle.solver.proofs.Endings.{kind, kind-laws, solution-ends}
 use Rattle.solver.proofs.Optimum.{put-before, put-after, boardOf, into-same, is-total, optimal}
 use Rattle.solver.proofs.CheckLaws.{checks-sound, lent-passed}
 use Rattle.solver.proofs.Machine.{fits-here, continues, unit-same}
-use Rattle.solver.proofs.Progress.{table-pos, progress}
+use Rattle.solver.proofs.Progress.{start-early, progress}
 
 -- the numbers of a grid's job are those of the plan that fills the whole table first
 shape-is : (w h : ℕ) → whole (2 ^ w) h w ≡ gridShape w h
@@ -99,7 +99,7 @@ third-demand rule w h g t β r j O e =
     subst (λ (x : Job). Demand grid (aimOf (gridKind rule w h g)) g (record { job = x; table = t; board = β })) (sym (O .job j e))
     (kind-meets-demand (List ℕ) lentCheck unitOf g (gridKind rule w h g) (kind-shows z g) (record { job = start rule w h; table = t; board = β }) (record {
       of = record { ruled = refl; wide = refl; tall = refl };
-      fits = fits-of rule w h 0 Stage.Filling z (table-pos (z .size));
+      fits = fits-of rule w h 0 (Stage.Filling 0 0 0) z (start-early (z .size));
       units = refl;
       mark = refl;
       above = refl;

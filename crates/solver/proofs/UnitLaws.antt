@@ -92,8 +92,8 @@ lent-memory {j} L =
     let T = fits-at j (L .taken) in
     record { narrow = T .frame .size .narrow; low = T .frame .size .low; marks = L .marks; entries = L .entries }
 
-pub lent-early : {j : Job} {g t β : List ℕ} → Lent j g t β → j .stage ≡ Stage.Filling → j .units < tableSize (j .width) (j .height)
-lent-early {j} L e = fits-filling j (L .taken) e
+pub lent-early : {j : Job} {g t β : List ℕ} {above last live : ℕ} → Lent j g t β → j .stage ≡ Stage.Filling above last live → j .units < tableSize (j .width) (j .height)
+lent-early {j} L e = fits-filling j (L .taken) e .until
 
 -- where a row is to be chosen
 pub chooses-at : {j : Job} {above last : ℕ} {g t β : List ℕ} (C : Chooses j above last g t β) → Choosing (j .width) (j .height) (j .units) above last (C .live)

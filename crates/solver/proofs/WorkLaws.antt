@@ -17,7 +17,7 @@ module _ (g : List ℕ) where
   ended-stays s e = go (s .job .stage) refl e
     where
       go : (x : Stage) → s .job .stage ≡ x → hasEnded x ≡ true → unitOf g s ≡ next s
-      go Stage.Filling p q = absurd (true≢false (sym q))
+      go (Stage.Filling above last live) p q = absurd (true≢false (sym q))
       go (Stage.Choosing above last live) p q = absurd (true≢false (sym q))
       go (Stage.Finished above last score) p q = rw p
       go Stage.Infeasible p q = rw p

@@ -45,7 +45,7 @@ abbrev pub entriesWritten : ℕ → ℕ → Job → ℕ
 entriesWritten w h j = min (j .units) (tableSize w h)
 
 abbrev pub chosenIn : Stage → ℕ → ℕ
-chosenIn Stage.Filling beyond = 0
+chosenIn (Stage.Filling above last live) beyond = 0
 chosenIn (Stage.Choosing above last live) beyond = beyond
 chosenIn (Stage.Finished above last score) beyond = beyond
 chosenIn Stage.Infeasible beyond = 0
@@ -54,7 +54,7 @@ abbrev pub chosenRows : ℕ → ℕ → Job → ℕ
 chosenRows w h j = chosenIn (j .stage) (j .units - tableSize w h)
 
 abbrev pub idleUnits : Stage → ℕ
-idleUnits Stage.Filling = 0
+idleUnits (Stage.Filling above last live) = 0
 idleUnits (Stage.Choosing above last live) = 0
 idleUnits (Stage.Finished above last score) = 0
 idleUnits Stage.Infeasible = 1

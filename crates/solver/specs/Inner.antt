@@ -15,7 +15,7 @@ use Rattle.job.specs.declared.Job.{Job}
 
 -- the job has ended
 abbrev pub hasEnded : Stage → Bool
-hasEnded Stage.Filling = false
+hasEnded (Stage.Filling above last live) = false
 hasEnded (Stage.Choosing above last live) = false
 hasEnded (Stage.Finished above last score) = true
 hasEnded Stage.Infeasible = true

@@ -44,7 +44,11 @@ fn status_of(stage: Stage) -> Status
     ensures { λ r. ⌜ statusSays r ≡ stageSays stage ⌝ }
 {
     match stage {
-        Stage::Filling => Status::Unfinished,
+        Stage::Filling {
+            above: _,
+            last: _,
+            live: _,
+        } => Status::Unfinished,
         Stage::Choosing {
             above: _,
             last: _,
@@ -63,7 +67,11 @@ fn has_ended(stage: Stage) -> bool
     ensures { λ r. ⌜ r ≡ hasEnded stage ⌝ }
 {
     match stage {
-        Stage::Filling => false,
+        Stage::Filling {
+            above: _,
+            last: _,
+            live: _,
+        } => false,
         Stage::Choosing {
             above: _,
             last: _,
@@ -86,7 +94,11 @@ fn unit(next: &[u8; 512], job: Job, givens: &[u8], table: &mut [u16], board: &mu
 {
     let stage = job.stage;
     match stage {
-        Stage::Filling => {
+        Stage::Filling {
+            above: _,
+            last: _,
+            live: _,
+        } => {
             score_table::fill(next, job.width, job.height, job.units, givens, table);
             Stepped::Next(job.after(Done::Entry))
         }

@@ -53,7 +53,11 @@ fn no_job() -> Job {
         width: 0,
         height: 0,
         units: 0,
-        stage: Stage::Filling,
+        stage: Stage::Filling {
+            above: 0,
+            last: 0,
+            live: 0,
+        },
     }
 }
 
@@ -118,7 +122,7 @@ pub fn resumed(job: Job) -> Job {
 pub fn numbers_of(job: Job) -> Checkpoint {
     let stage = job.stage;
     match stage {
-        Stage::Filling => with_stage(job, 0, 0, 0, 0),
+        Stage::Filling { above, last, live } => with_stage(job, above, last, live, 0),
         Stage::Choosing { above, last, live } => with_stage(job, above, last, live, 0),
         Stage::Finished { above, last, score } => with_stage(job, above, last, score, 1),
         Stage::Infeasible => with_stage(job, 0, 0, 0, 2),
@@ -156,7 +160,11 @@ pub fn same_job(a: Job, b: Job) -> bool {
 
 fn is_filling(stage: Stage) -> bool {
     match stage {
-        Stage::Filling => true,
+        Stage::Filling {
+            above: _,
+            last: _,
+            live: _,
+        } => true,
         _ => false,
     }
 }

@@ -109,7 +109,11 @@ fn is_job(job: Job) -> bool {
     let s = sizes::sized(job.width, job.height);
     let stage = job.stage;
     let fits = match stage {
-        Stage::Filling => job.units < s.entries,
+        Stage::Filling {
+            above: _,
+            last: _,
+            live: _,
+        } => job.units < s.entries,
         Stage::Choosing {
             above: _,
             last: _,
@@ -128,7 +132,11 @@ fn is_job(job: Job) -> bool {
 // A job of some numbers in any stage.
 fn random_job(c: Checkpoint, seed: usize) -> Job {
     let stage = match random::below(4, seed, 700000) {
-        0 => Stage::Filling,
+        0 => Stage::Filling {
+            above: 0,
+            last: 0,
+            live: 0,
+        },
         1 => Stage::Choosing {
             above: c.above,
             last: c.last,

@@ -253,7 +253,11 @@ fn forged(job: Job, kind: usize) -> Job {
 // A stage that does not fit the units of a job in this one.
 fn other_stage(stage: Stage) -> Stage {
     match stage {
-        Stage::Filling => Stage::Choosing {
+        Stage::Filling {
+            above: _,
+            last: _,
+            live: _,
+        } => Stage::Choosing {
             above: 0,
             last: 0,
             live: 0,
@@ -262,12 +266,24 @@ fn other_stage(stage: Stage) -> Stage {
             above: _,
             last: _,
             live: _,
-        } => Stage::Filling,
+        } => Stage::Filling {
+            above: 0,
+            last: 0,
+            live: 0,
+        },
         Stage::Finished {
             above: _,
             last: _,
             score: _,
-        } => Stage::Filling,
-        Stage::Infeasible => Stage::Filling,
+        } => Stage::Filling {
+            above: 0,
+            last: 0,
+            live: 0,
+        },
+        Stage::Infeasible => Stage::Filling {
+            above: 0,
+            last: 0,
+            live: 0,
+        },
     }
 }

@@ -248,7 +248,11 @@ fn stage_of(c: Checkpoint) -> Stage {
         2 => Stage::Infeasible,
         _ => {
             if c.units < s.entries {
-                return Stage::Filling;
+                return Stage::Filling {
+                    above: c.above,
+                    last: c.last,
+                    live: c.live,
+                };
             }
             Stage::Choosing {
                 above: c.above,
