@@ -1,6 +1,6 @@
 -- Powers of 2 and 4 as the code's shifts compute them, and their bounds.
 -- Assumes nothing.
-use mathlib.Core.Path.{_≡_, refl}
+use mathlib.Core.Path.{_≡_, refl, ap}
 use Prim.Native.Nat.{ℕ, zero, suc, _+_, _*_, _/_, _%_, _^_, _<_, _≤_}
 use native.Mathlib.Nat.{mod-eq-of-lt, one-mul, mul-le-mul, pow-suc, div-lt-iff-lt-mul, le-div-iff-mul-le}
 use native.Mathlib.Omega.{arith}
@@ -32,6 +32,10 @@ pub four-shift : {w : ℕ} → w ≤ 10 → 1 * 2 ^ (2 * w) % 2 ^ 64 ≡ 4 ^ w
 four-shift {w} l = let b : 4 ^ w ≤ 1048576 = four-le l in rw (one-mul, four-pow w) (mod-eq-of-lt (omega arith))
 
 -- ---- h × 4^w
+pub table-four : (w h : ℕ) → tableSize w h ≡ h * (2 ^ w * 2 ^ w)
+unfolding tableSize
+table-four w h = ap (λ (q : ℕ). h * q) (four-two w)
+
 pub table-le : {w h : ℕ} → w ≤ 10 → h ≤ 60 → tableSize w h ≤ 62914560
 unfolding tableSize
 table-le {w} {h} l m = let b : h * 4 ^ w ≤ 60 * 1048576 = mul-le-mul m (four-le l) in omega arith

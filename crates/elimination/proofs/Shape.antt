@@ -37,34 +37,78 @@ when-at : (t x : Bool) → cond t x true ≡ true → t ≡ true → x ≡ true
 when-at true x e p = e
 when-at false x e p = absurd (true≢false (sym p))
 
-record Rows (most k above last live : ℕ) : Type 0 where
-  few : live ≤ most * k
-  none : k ≡ 0 → last ≡ 0
-  one : k < 2 → above ≡ 0
+-- ---- what numbers that fit have
+pub record Rows (most k above last live : ℕ) : Type 0 where
+  pub few : live ≤ most * k
+  pub none : k ≡ 0 → last ≡ 0
+  pub one : k < 2 → above ≡ 0
+
+rows-of : {most k above last live : ℕ} → Rows most k above last live → rowsFit most k above last live ≡ true
+unfolding rowsFit
+rows-of {most} {k} {above} {last} {live} r =
+    and-true (and-true (le-leb live (most * k) (r .few)) (when-of (eqb k 0) (eqb last 0) (λ e. eq-eqb last 0 (r .none (eqb-true k 0 e)))))
+    (when-of (ltb k 2) (eqb above 0) (λ e. eq-eqb above 0 (r .one (ltb-true k 2 e))))
+
+rows-at : (most k above last live : ℕ) → rowsFit most k above last live ≡ true → Rows most k above last live
+unfolding rowsFit
+rows-at most k above last live e =
+    let first = and-left (leb live (most * k) && cond (eqb k 0) (eqb last 0) true) (cond (ltb k 2) (eqb above 0) true) e in
+    let third = and-right (leb live (most * k) && cond (eqb k 0) (eqb last 0) true) (cond (ltb k 2) (eqb above 0) true) e in
+    let second = and-right (leb live (most * k)) (cond (eqb k 0) (eqb last 0) true) first in record {
+      few = leb-true live (most * k) (and-left (leb live (most * k)) (cond (eqb k 0) (eqb last 0) true) first);
+      none = λ z. eqb-true last 0 (when-at (eqb k 0) (eqb last 0) second (eq-eqb k 0 z));
+      one = λ l. eqb-true above 0 (when-at (ltb k 2) (eqb above 0) third (lt-ltb k 2 l));
+    }
+
+-- the units, by the end mark
+pub data Units (S : Shape) (units : ℕ) : ℕ → Type 0 where
+  runs : units < S .boardLength → Units S units 0
+  ends : units ≡ S .boardLength → Units S units 1
+  fails : units ≡ S .noneLength → Units S units 2
+
+pub units-at : (S : Shape) (units mark : ℕ) → unitsFit S units mark ≡ true → Units S units mark
+unfolding unitsFit
+units-at S units zero e = runs (ltb-true units (S .boardLength) e)
+units-at S units (suc zero) e = ends (eqb-true units (S .boardLength) e)
+units-at S units (suc (suc zero)) e = fails (eqb-true units (S .noneLength) e)
+units-at S units (suc (suc (suc m))) e =
+    let other : (n : ℕ) → n ≤ 2 → eqb (suc (suc (suc m))) n ≡ false = λ n l. ne-eqb (suc (suc (suc m))) n (λ q. omega arith) in
+    absurd (true≢false (sym (rw (other 0 (omega arith), other 1 (omega arith), other 2 (omega arith)) at e)))
+
+pub record NumbersAre (S : Shape) (n : Numbers) : Type 0 where
+  pub over : n .above < S .codes
+  pub below : n .last < S .codes
+  pub units : Units S (n .units) (n .mark)
+  pub rows : Rows (S .most) (rowsChosen S (n .units) (n .mark)) (n .above) (n .last) (n .live)
+
+pub numbers-at : (S : Shape) (n : Numbers) → numbersFit S n ≡ true → NumbersAre S n
+unfolding numbersFit
+numbers-at S n e =
+    let a = ltb (n .above) (S .codes) in
+    let b = ltb (n .last) (S .codes) in
+    let u = unitsFit S (n .units) (n .mark) in
+    let r = rowsFit (S .most) (rowsChosen S (n .units) (n .mark)) (n .above) (n .last) (n .live) in
+    let p3 = and-left (a && b && u) r e in
+    let p2 = and-left (a && b) u p3 in record {
+      over = ltb-true (n .above) (S .codes) (and-left a b p2);
+      below = ltb-true (n .last) (S .codes) (and-right a b p2);
+      units = units-at S (n .units) (n .mark) (and-right (a && b) u p3);
+      rows = rows-at (S .most) (rowsChosen S (n .units) (n .mark)) (n .above) (n .last) (n .live) (and-right (a && b && u) r e);
+    }
 
 module _ (S : Shape) where
-  rows-of : {k above last live : ℕ} → Rows (S .most) k above last live → rowsFit S k above last live ≡ true
-  unfolding rowsFit
-  rows-of {k} {above} {last} {live} r =
-      and-true (and-true (le-leb live (S .most * k) (r .few)) (when-of (eqb k 0) (eqb last 0) (λ e. eq-eqb last 0 (r .none (eqb-true k 0 e)))))
-      (when-of (ltb k 2) (eqb above 0) (λ e. eq-eqb above 0 (r .one (ltb-true k 2 e))))
-
-  rows-at : (k above last live : ℕ) → rowsFit S k above last live ≡ true → Rows (S .most) k above last live
-  unfolding rowsFit
-  rows-at k above last live e =
-      let first = and-left (leb live (S .most * k) && cond (eqb k 0) (eqb last 0) true) (cond (ltb k 2) (eqb above 0) true) e in
-      let third = and-right (leb live (S .most * k) && cond (eqb k 0) (eqb last 0) true) (cond (ltb k 2) (eqb above 0) true) e in
-      let second = and-right (leb live (S .most * k)) (cond (eqb k 0) (eqb last 0) true) first in record {
-        few = leb-true live (S .most * k) (and-left (leb live (S .most * k)) (cond (eqb k 0) (eqb last 0) true) first);
-        none = λ z. eqb-true last 0 (when-at (eqb k 0) (eqb last 0) second (eq-eqb k 0 z));
-        one = λ l. eqb-true above 0 (when-at (ltb k 2) (eqb above 0) third (lt-ltb k 2 l));
-      }
-
-  -- numbers that fit, by their mark
+  -- numbers that fit, with k rows chosen
   fit-of : (n : Numbers) → n .above < S .codes → n .last < S .codes → unitsFit S (n .units) (n .mark) ≡ true
       → (k : ℕ) → rowsChosen S (n .units) (n .mark) ≡ k → Rows (S .most) k (n .above) (n .last) (n .live) → numbersFit S n ≡ true
   unfolding numbersFit
   fit-of n a b u k e r = and-true (and-true (and-true (lt-ltb (n .above) (S .codes) a) (lt-ltb (n .last) (S .codes) b)) u) (rw e (rows-of r))
+
+  -- those of an opened job fit
+  pub numbers-start : ShapeLaws S → 0 < S .codes → 0 < S .boardLength → numbersFit S (record { units = 0; above = 0; last = 0; live = 0; mark = 0 }) ≡ true
+  unfolding unitsFit rowsChosen
+  numbers-start L codes long =
+      fit-of (record { units = 0; above = 0; last = 0; live = 0; mark = 0 }) codes codes (lt-ltb 0 (S .boardLength) long) 0 (L .none-chosen)
+      (record { few = omega arith; none = λ q. refl; one = λ q. refl })
 
   -- a running job's
   record Runs (n : Numbers) : Type 0 where
@@ -74,19 +118,14 @@ module _ (S : Shape) where
     rows : Rows (S .most) (S .chosen (n .units)) (n .above) (n .last) (n .live)
 
   runs-at : (n : Numbers) → numbersFit S n ≡ true → n .mark ≡ 0 → Runs n
-  unfolding numbersFit unitsFit rowsChosen
+  unfolding rowsChosen
   runs-at n e m =
-      let a = ltb (n .above) (S .codes) in
-      let b = ltb (n .last) (S .codes) in
-      let u = unitsFit S (n .units) (n .mark) in
-      let r = rowsFit S (rowsChosen S (n .units) (n .mark)) (n .above) (n .last) (n .live) in
-      let p3 = and-left (a && b && u) r e in
-      let p2 = and-left (a && b) u p3 in record {
-        over = ltb-true (n .above) (S .codes) (and-left a b p2);
-        below = ltb-true (n .last) (S .codes) (and-right a b p2);
-        until = ltb-true (n .units) (S .boardLength) (rw m at (and-right (a && b) u p3));
-        rows = rows-at (S .chosen (n .units)) (n .above) (n .last) (n .live) (rw m at (and-right (a && b && u) r e));
-      }
+      let F = numbers-at S n e in record { over = F .over; below = F .below; until = go (n .mark) (F .units) m; rows = rw m at (F .rows) }
+    where
+      go : (k : ℕ) → Units S (n .units) k → k ≡ 0 → n .units < S .boardLength
+      go k (runs l) z = l
+      go k (ends q) z = absurd (omega arith)
+      go k (fails q) z = absurd (omega arith)
 
 pub numbers-go-on : (S : Shape) → NumbersGoOn S
 unfolding unitsFit rowsChosen

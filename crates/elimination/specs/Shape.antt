@@ -33,6 +33,10 @@ pub record Numbers : Type 0 where
   pub live : ℕ
   pub mark : ℕ
 
+-- with k rows chosen, each worth at most `most`, live is at most what they are worth, last row is 0 if k = 0, row above is 0 if k is below 2
+unfoldable pub rowsFit : ℕ → ℕ → ℕ → ℕ → ℕ → Bool
+rowsFit most k above last live = leb live (most * k) && cond (eqb k 0) (eqb last 0) true && cond (ltb k 2) (eqb above 0) true
+
 module _ (S : Shape) where
   -- units by the end mark: below the length for mark 0, equal to it for mark 1, the length of none for mark 2; no other mark
   unfoldable pub unitsFit : ℕ → ℕ → Bool
@@ -44,16 +48,12 @@ module _ (S : Shape) where
   unfoldable pub rowsChosen : ℕ → ℕ → ℕ
   rowsChosen units mark = cond (eqb mark 2) 0 (S .chosen units)
 
-  -- with k rows chosen, live is at most what k rows are worth, last row is 0 if k = 0, row above is 0 if k is below 2
-  unfoldable pub rowsFit : ℕ → ℕ → ℕ → ℕ → Bool
-  rowsFit k above last live = leb live (S .most * k) && cond (eqb k 0) (eqb last 0) true && cond (ltb k 2) (eqb above 0) true
-
   unfoldable pub numbersFit : Numbers → Bool
   numbersFit n =
       ltb (n .above) (S .codes) &&
       ltb (n .last) (S .codes) &&
       unitsFit (n .units) (n .mark) &&
-      rowsFit (rowsChosen (n .units) (n .mark)) (n .above) (n .last) (n .live)
+      rowsFit (S .most) (rowsChosen (n .units) (n .mark)) (n .above) (n .last) (n .live)
 
   -- ---- after a unit
   abbrev pub afterEntry : Numbers → Numbers

@@ -1,31 +1,27 @@
 -- What the tests of nine numbers show one after the other, and that the job of nine numbers that fit has those numbers.
 -- Assumes nothing.
-use mathlib.Core.Path.{_≡_, refl, _∙_, ap}
-use mathlib.Core.Bool.{Bool, true, false, _&&_}
+use mathlib.Core.Path.{_≡_, refl, sym, _∙_, ap}
+use mathlib.Core.Bool.{Bool, true, false, not, _&&_}
 use mathlib.Core.List.{List}
 use Prim.Native.Nat.{ℕ, _+_, _*_, _-_, _/_, _^_, _≤_, _<_}
 use native.Mathlib.Nat.{div-eq-of-lt, lt-div-mul-add}
 use native.Mathlib.Omega.{arith}
 use native.Mathlib.Decide.{decLt}
-use borrow.Author.Tests.{ltb-true, ltb-false, le-leb}
-use lib.Dec.{ltb}
 use lib.Pow.{pow-pos}
 use Rattle.board.specs.Answers.{refuses, refuseUnless, _then_}
 use Rattle.board.specs.Boards.{among}
-use Rattle.board.specs.Checks.{sizeCheck, tableSize}
-use Rattle.board.proofs.Tests.{among-yes}
+use Rattle.board.specs.Checks.{sizeCheck}
+use Rattle.elimination.specs.Task.{isFill}
+use Rattle.elimination.specs.Shape.{Shape, unitsFit, rowsChosen}
+use Rattle.elimination.proofs.Shape.{Rows, Units, runs, ends, fails, units-at}
 use Rattle.rule.specs.Rule.{ruleFits, ruleCheck, gridCheck}
 use Rattle.rule.specs.declared.Rule.{Rule}
-use Rattle.rule.proofs.Rules.{allowed-fits}
-use Rattle.job.specs.Jobs.{unitsFit, rowsChosen, checkpointFits, numbersOf, stageFits, jobFits, stageOf, jobOf, jobSays, checkpointSays}
+use Rattle.job.specs.Jobs.{shapeOf, checkpointFits, numbersOf, stageFits, jobFits, stageOf, jobOf, jobSays, checkpointSays}
 use Rattle.job.specs.declared.Checkpoint.{Checkpoint}
-use Rattle.job.proofs.Fits.{Frame, RowsFit, UnitsFit, runs, ends, fails, units-at, numbers-at, and-true, heard}
+use Rattle.job.proofs.Shapes.{board-long}
+use Rattle.job.proofs.Fits.{numbers-at, and-true, heard}
 
 -- ---- the size and the rule
-pub frame-fits : {rule : Rule} {w h : ℕ} → Frame rule w h → among 10 w && among 60 h && ruleFits rule ≡ true
-frame-fits {rule} {w} {h} z =
-    rw (among-yes 10 w (z .size .some-column) (z .size .narrow), among-yes 60 h (z .size .some-row) (z .size .low)) (allowed-fits rule (z .allowed))
-
 pub frame-misfits : (rule : Rule) (w h : ℕ) {n : ℕ} {vs : List ℕ} → gridCheck rule w h ≡ refuses n vs → among 10 w && among 60 h && ruleFits rule ≡ false
 unfolding gridCheck sizeCheck ruleCheck
 frame-misfits rule w h {n} {vs} e = go (among 10 w) (among 60 h) (ruleFits rule) e
@@ -45,13 +41,13 @@ pub shift-some : (x w : ℕ) → (x / 2 ^ w ≡ 0 → ⊥) → 2 ^ w ≤ x
 shift-some x w n = elim (decLt x (2 ^ w)) [ yes l ↦ absurd (n (div-eq-of-lt l)) | no l ↦ omega arith ]
 
 -- at most h rows are chosen where the units fit
-pub chosen-le : (w h units mark : ℕ) → unitsFit w h units mark ≡ true → rowsChosen w h units mark ≤ h
+pub chosen-le : (w h units mark : ℕ) → unitsFit (shapeOf w h) units mark ≡ true → rowsChosen (shapeOf w h) units mark ≤ h
 unfolding rowsChosen
-chosen-le w h units mark e = go mark (units-at w h units mark e)
+chosen-le w h units mark e = go mark (units-at (shapeOf w h) units mark e)
   where
-    go : (mark : ℕ) → UnitsFit w h units mark → rowsChosen w h units mark ≤ h
-    go mark (runs l) = omega arith
-    go mark (ends q) = omega arith
+    go : (mark : ℕ) → Units (shapeOf w h) units mark → rowsChosen (shapeOf w h) units mark ≤ h
+    go mark (runs l) = omega (arith, board-long w h)
+    go mark (ends q) = omega (arith, board-long w h)
     go mark (fails q) = omega arith
 
 -- ---- the job of nine numbers
@@ -61,23 +57,26 @@ record NoRows (above last live : ℕ) : Type 0 where
   below : last ≡ 0
   few : live ≡ 0
 
-no-rows : {w k above last live : ℕ} → RowsFit w k above last live → k ≡ 0 → NoRows above last live
-no-rows {w} {k} {above} {last} {live} r e =
-    let l : live ≤ w * 0 = rw e at (r .few) in record { over = r .one (omega arith); below = r .none e; few = omega arith }
+no-rows : {most k above last live : ℕ} → Rows most k above last live → k ≡ 0 → NoRows above last live
+no-rows {most} {k} {above} {last} {live} r e =
+    let l : live ≤ most * 0 = rw e at (r .few) in record { over = r .one (omega arith); below = r .none e; few = omega arith }
 
 -- it has those numbers
 pub numbers-back : (t : Checkpoint) → checkpointFits t ≡ true → jobSays (jobOf t) ≡ checkpointSays t
 unfolding stageOf rowsChosen
-numbers-back t e = go (t .mark) (numbers-at t e .units) refl
+numbers-back t e = go (t .mark) (numbers-at t e .are .units) refl
   where
-    filling : t .mark ≡ 0 → (b : Bool) → ltb (t .units) (tableSize (t .width) (t .height)) ≡ b → jobSays (jobOf t) ≡ checkpointSays t
-    filling m true r = rw (m, r)
-    filling m false r = rw (m, r)
+    S : Shape
+    S = shapeOf (t .width) (t .height)
 
-    go : (mark : ℕ) → UnitsFit (t .width) (t .height) (t .units) mark → t .mark ≡ mark → jobSays (jobOf t) ≡ checkpointSays t
-    go mark (runs l) m = filling m (ltb (t .units) (tableSize (t .width) (t .height))) refl
+    running : t .mark ≡ 0 → (b : Bool) → isFill (shapeOf (t .width) (t .height) .plan (t .units)) ≡ b → jobSays (jobOf t) ≡ checkpointSays t
+    running m true r = rw (m, r)
+    running m false r = rw (m, r)
+
+    go : (mark : ℕ) → Units S (t .units) mark → t .mark ≡ mark → jobSays (jobOf t) ≡ checkpointSays t
+    go mark (runs l) m = running m (isFill (shapeOf (t .width) (t .height) .plan (t .units))) refl
     go mark (ends q) m = rw m
-    go mark (fails q) m = let n = no-rows (numbers-at t e .rows) (rw m) in rw (m, n .over, n .below, n .few)
+    go mark (fails q) m = let n = no-rows (numbers-at t e .are .rows) (rw m) in rw (m, n .over, n .below, n .few)
 
 pub numbers-of-job : (t : Checkpoint) → checkpointFits t ≡ true → numbersOf (jobOf t) ≡ t
 numbers-of-job t e = ap heard (numbers-back t e)
@@ -85,13 +84,16 @@ numbers-of-job t e = ap heard (numbers-back t e)
 -- and it fits
 pub resumed-fits : (t : Checkpoint) → checkpointFits t ≡ true → jobFits (jobOf t) ≡ true
 unfolding jobFits stageOf
-resumed-fits t e = and-true (ap checkpointFits (numbers-of-job t e) ∙ e) (go (t .mark) (numbers-at t e .units) refl)
+resumed-fits t e = and-true (ap checkpointFits (numbers-of-job t e) ∙ e) (go (t .mark) (numbers-at t e .are .units) refl)
   where
-    running : t .mark ≡ 0 → (b : Bool) → ltb (t .units) (tableSize (t .width) (t .height)) ≡ b → stageFits (t .width) (t .height) (t .units) (jobOf t .stage) ≡ true
-    running m true r = rw (m, r) r
-    running m false r = rw (m, r) (le-leb (tableSize (t .width) (t .height)) (t .units) (ltb-false (t .units) (tableSize (t .width) (t .height)) r))
+    fits : Type 0
+    fits = stageFits (shapeOf (t .width) (t .height)) (t .units) (jobOf t .stage) ≡ true
 
-    go : (mark : ℕ) → UnitsFit (t .width) (t .height) (t .units) mark → t .mark ≡ mark → stageFits (t .width) (t .height) (t .units) (jobOf t .stage) ≡ true
-    go mark (runs l) m = running m (ltb (t .units) (tableSize (t .width) (t .height))) refl
+    running : t .mark ≡ 0 → (b : Bool) → isFill (shapeOf (t .width) (t .height) .plan (t .units)) ≡ b → fits
+    running m true r = rw (m, r) r
+    running m false r = rw (m, r) (ap not r)
+
+    go : (mark : ℕ) → Units (shapeOf (t .width) (t .height)) (t .units) mark → t .mark ≡ mark → fits
+    go mark (runs l) m = running m (isFill (shapeOf (t .width) (t .height) .plan (t .units))) refl
     go mark (ends q) m = rw m
     go mark (fails q) m = rw m

@@ -1,84 +1,35 @@
--- Which numbers resuming takes and which jobs pausing and working take, as facts, both ways; and that the job resumed is the one paused.
+-- Which numbers resuming takes and which jobs pausing and working take, as facts; and that the job resumed is the one paused.
 -- Assumes nothing.
 use mathlib.Core.Path.{_≡_, refl, sym, _∙_, ap}
-use mathlib.Core.Bool.{Bool, true, false, cond, _&&_, true≢false}
+use mathlib.Core.Bool.{Bool, true, cond, _&&_}
 use mathlib.Core.List.{List}
-use Prim.Native.Nat.{ℕ, zero, suc, _+_, _*_, _-_, _^_, _≤_, _<_}
+use Prim.Native.Nat.{ℕ, _+_, _-_, _^_, _≤_, _<_}
 use native.Mathlib.Omega.{arith}
-use borrow.Author.Tests.{ltb-true, leb-true, eqb-true, lt-ltb, le-ltb, le-leb, eq-eqb, ne-eqb}
-use lib.Dec.{ltb, leb, eqb}
+use borrow.Author.Tests.{not-true}
 use lib.ListN.{getD}
 use lib.Pow.{pow-pos}
 use Rattle.board.specs.Answers.{Answer, gives, refuses, refuseUnless}
 use Rattle.board.specs.Boards.{among, Sized}
+use Rattle.board.specs.Checks.{tableSize}
 use Rattle.board.proofs.Answers.{refuses-none, then-gives, unless-gives}
 use Rattle.board.proofs.Tests.{and-left, and-right, among-yes, among-in}
+use Rattle.elimination.specs.Task.{isFill}
+use Rattle.elimination.specs.Shape.{numbersFit, rowsChosen}
+use Rattle.elimination.proofs.Shape.{Rows, Units, runs, ends, fails, NumbersAre, numbers-start}
+use Rattle.elimination.proofs.Shape as Shapes
 use Rattle.rule.specs.Rule.{Allowed, ruleFits}
 use Rattle.rule.specs.declared.Rule.{Rule}
 use Rattle.rule.proofs.Rules.{fits-allowed, allowed-fits}
-use Rattle.board.specs.Checks.{tableSize}
-use Rattle.job.specs.Jobs.{ruleOf, unitsFit, rowsChosen, rowsFit, checkpointFits, numbersOf, checkpointSays, jobSays, stageFits, jobFits, stageOf, jobOf, pauseRule, resumeRule, pausedSays, resumedSays}
+use Rattle.job.specs.Jobs.{shapeOf, ruleOf, numbersIn, checkpointFits, numbersOf, checkpointSays, jobSays, stageFits, jobFits, stageOf, start, jobOf, pauseRule, resumeRule, pausedSays, resumedSays}
 use Rattle.job.specs.Calls.{RoundTrip, Pausable}
 use Rattle.job.specs.declared.Stage.{Stage}
 use Rattle.job.specs.declared.Job.{Job}
 use Rattle.job.specs.declared.Checkpoint.{Checkpoint}
 use Rattle.job.specs.declared.Resumed.{Resumed}
+use Rattle.job.proofs.Shapes.{shape-lawful, board-long, none-long, table-pos, fills-at, fills-below, chooses-from}
 
 pub and-true : {s t : Bool} → s ≡ true → t ≡ true → s && t ≡ true
 and-true p q = rw (p, q)
-
--- a test that is only asked where another holds
-when-of : (t x : Bool) → (t ≡ true → x ≡ true) → cond t x true ≡ true
-when-of true x f = f refl
-when-of false x f = refl
-
-when-at : (t x : Bool) → cond t x true ≡ true → t ≡ true → x ≡ true
-when-at true x e p = e
-when-at false x e p = absurd (true≢false (sym p))
-
--- ---- the rows, with k of them chosen
-pub record RowsFit (w k above last live : ℕ) : Type 0 where
-  pub few : live ≤ w * k
-  pub none : k ≡ 0 → last ≡ 0
-  pub one : k < 2 → above ≡ 0
-
-pub rows-of : {w k above last live : ℕ} → RowsFit w k above last live → rowsFit w k above last live ≡ true
-unfolding rowsFit
-rows-of {w} {k} {above} {last} {live} r =
-    and-true (and-true (le-leb live (w * k) (r .few)) (when-of (eqb k 0) (eqb last 0) (λ e. eq-eqb last 0 (r .none (eqb-true k 0 e)))))
-    (when-of (ltb k 2) (eqb above 0) (λ e. eq-eqb above 0 (r .one (ltb-true k 2 e))))
-
-pub rows-at : (w k above last live : ℕ) → rowsFit w k above last live ≡ true → RowsFit w k above last live
-unfolding rowsFit
-rows-at w k above last live e =
-    let first = and-left (leb live (w * k) && cond (eqb k 0) (eqb last 0) true) (cond (ltb k 2) (eqb above 0) true) e in
-    let third = and-right (leb live (w * k) && cond (eqb k 0) (eqb last 0) true) (cond (ltb k 2) (eqb above 0) true) e in
-    let second = and-right (leb live (w * k)) (cond (eqb k 0) (eqb last 0) true) first in record {
-      few = leb-true live (w * k) (and-left (leb live (w * k)) (cond (eqb k 0) (eqb last 0) true) first);
-      none = λ z. eqb-true last 0 (when-at (eqb k 0) (eqb last 0) second (eq-eqb k 0 z));
-      one = λ l. eqb-true above 0 (when-at (ltb k 2) (eqb above 0) third (lt-ltb k 2 l));
-    }
-
--- ---- the units, by the end mark
-pub data UnitsFit (w h units : ℕ) : ℕ → Type 0 where
-  runs : units < tableSize w h + h → UnitsFit w h units 0
-  ends : units ≡ tableSize w h + h → UnitsFit w h units 1
-  fails : units ≡ tableSize w h + 1 → UnitsFit w h units 2
-
-pub units-of : {w h units mark : ℕ} → UnitsFit w h units mark → unitsFit w h units mark ≡ true
-unfolding unitsFit
-units-of {w} {h} {units} (runs l) = lt-ltb units (tableSize w h + h) l
-units-of {w} {h} {units} (ends e) = eq-eqb units (tableSize w h + h) e
-units-of {w} {h} {units} (fails e) = eq-eqb units (tableSize w h + 1) e
-
-pub units-at : (w h units mark : ℕ) → unitsFit w h units mark ≡ true → UnitsFit w h units mark
-unfolding unitsFit
-units-at w h units zero e = runs (ltb-true units (tableSize w h + h) e)
-units-at w h units (suc zero) e = ends (eqb-true units (tableSize w h + h) e)
-units-at w h units (suc (suc zero)) e = fails (eqb-true units (tableSize w h + 1) e)
-units-at w h units (suc (suc (suc m))) e =
-    let other : (n : ℕ) → n ≤ 2 → eqb (suc (suc (suc m))) n ≡ false = λ n l. ne-eqb (suc (suc (suc m))) n (λ q. omega arith) in
-    absurd (true≢false (sym (rw (other 0 (omega arith), other 1 (omega arith), other 2 (omega arith)) at e)))
 
 -- ---- the nine numbers
 -- a size and a rule that opening takes
@@ -86,25 +37,19 @@ pub record Frame (rule : Rule) (w h : ℕ) : Type 0 where
   pub size : Sized w h
   pub allowed : Allowed rule
 
+pub frame-fits : {rule : Rule} {w h : ℕ} → Frame rule w h → among 10 w && among 60 h && ruleFits rule ≡ true
+frame-fits {rule} {w} {h} z =
+    rw (among-yes 10 w (z .size .some-column) (z .size .narrow), among-yes 60 h (z .size .some-row) (z .size .low)) (allowed-fits rule (z .allowed))
+
 pub record NumbersFit (t : Checkpoint) : Type 0 where
   pub frame : Frame (ruleOf t) (t .width) (t .height)
-  pub over : t .above < 2 ^ t .width
-  pub below : t .last < 2 ^ t .width
-  pub units : UnitsFit (t .width) (t .height) (t .units) (t .mark)
-  pub rows : RowsFit (t .width) (rowsChosen (t .width) (t .height) (t .units) (t .mark)) (t .above) (t .last) (t .live)
+  pub fit : numbersFit (shapeOf (t .width) (t .height)) (numbersIn t) ≡ true
+  pub are : NumbersAre (shapeOf (t .width) (t .height)) (numbersIn t)
 
-pub numbers-of : (t : Checkpoint) → NumbersFit t → checkpointFits t ≡ true
+pub numbers-of : (t : Checkpoint) → Frame (ruleOf t) (t .width) (t .height) → numbersFit (shapeOf (t .width) (t .height)) (numbersIn t) ≡ true
+    → checkpointFits t ≡ true
 unfolding checkpointFits
-numbers-of t f =
-    let z = f .frame .size in
-    and-true
-    (and-true
-    (and-true
-    (and-true
-    (and-true
-    (and-true (among-yes 10 (t .width) (z .some-column) (z .narrow)) (among-yes 60 (t .height) (z .some-row) (z .low)))
-    (allowed-fits (ruleOf t) (f .frame .allowed)))
-    (lt-ltb (t .above) (2 ^ t .width) (f .over))) (lt-ltb (t .last) (2 ^ t .width) (f .below))) (units-of (f .units))) (rows-of (f .rows))
+numbers-of t z e = and-true (frame-fits z) e
 
 pub numbers-at : (t : Checkpoint) → checkpointFits t ≡ true → NumbersFit t
 unfolding checkpointFits
@@ -112,46 +57,60 @@ numbers-at t e =
     let a = among 10 (t .width) in
     let b = among 60 (t .height) in
     let q = ruleFits (ruleOf t) in
-    let c = ltb (t .above) (2 ^ t .width) in
-    let d = ltb (t .last) (2 ^ t .width) in
-    let u = unitsFit (t .width) (t .height) (t .units) (t .mark) in
-    let r = rowsFit (t .width) (rowsChosen (t .width) (t .height) (t .units) (t .mark)) (t .above) (t .last) (t .live) in
-    let p6 = and-left (a && b && q && c && d && u) r e in
-    let p5 = and-left (a && b && q && c && d) u p6 in
-    let p4 = and-left (a && b && q && c) d p5 in
-    let p3 = and-left (a && b && q) c p4 in
+    let n = numbersFit (shapeOf (t .width) (t .height)) (numbersIn t) in
+    let p3 = and-left (a && b && q) n e in
     let p2 = and-left (a && b) q p3 in
     let wide = among-in 10 (t .width) (and-left a b p2) in
-    let tall = among-in 60 (t .height) (and-right a b p2) in record {
+    let tall = among-in 60 (t .height) (and-right a b p2) in
+    let f = and-right (a && b && q) n e in record {
       frame = record {
         size = record { some-column = wide .0; narrow = wide .1; some-row = tall .0; low = tall .1 };
         allowed = fits-allowed (ruleOf t) (and-right (a && b) q p3);
       };
-      over = ltb-true (t .above) (2 ^ t .width) (and-right (a && b && q) c p4);
-      below = ltb-true (t .last) (2 ^ t .width) (and-right (a && b && q && c) d p5);
-      units = units-at (t .width) (t .height) (t .units) (t .mark) (and-right (a && b && q && c && d) u p6);
-      rows = rows-at (t .width) (rowsChosen (t .width) (t .height) (t .units) (t .mark)) (t .above) (t .last) (t .live) (and-right (a && b && q && c && d && u) r e);
+      fit = f;
+      are = Shapes.numbers-at (shapeOf (t .width) (t .height)) (numbersIn t) f;
     }
 
--- ---- a job, by its stage
+-- ---- a job: its numbers fit, and its stage
+abbrev pub jobAt : Rule → ℕ → ℕ → ℕ → Stage → Job
+jobAt rule w h u s = record { rule = rule; width = w; height = h; units = u; stage = s }
+
+pub fits-numbers : (j : Job) → jobFits j ≡ true → checkpointFits (numbersOf j) ≡ true
+unfolding jobFits
+fits-numbers j e = and-left (checkpointFits (numbersOf j)) (stageFits (shapeOf (j .width) (j .height)) (j .units) (j .stage)) e
+
+pub fits-stage : (j : Job) → jobFits j ≡ true → stageFits (shapeOf (j .width) (j .height)) (j .units) (j .stage) ≡ true
+unfolding jobFits
+fits-stage j e = and-right (checkpointFits (numbersOf j)) (stageFits (shapeOf (j .width) (j .height)) (j .units) (j .stage)) e
+
+-- an opened job fits
+pub start-fits : {rule : Rule} {w h : ℕ} → Frame rule w h → jobFits (start rule w h) ≡ true
+unfolding jobFits
+start-fits {rule} {w} {h} z =
+    let high = z .size .some-row in
+    and-true
+    (numbers-of (numbersOf (start rule w h)) z (numbers-start (shapeOf w h) (shape-lawful w h high) (pow-pos w) (omega (arith, board-long w h, high))))
+    (fills-at w h 0 (table-pos w h high))
+
+-- ---- what a grid's job that fits has, by its stage
+pub record Early (w h u above last live : ℕ) : Type 0 where
+  pub over : above < 2 ^ w
+  pub below : last < 2 ^ w
+  pub until : u < tableSize w h
+  pub rows : Rows w (u - tableSize w h) above last live
+
 pub record Choosing (w h u above last live : ℕ) : Type 0 where
   pub over : above < 2 ^ w
   pub below : last < 2 ^ w
   pub from : tableSize w h ≤ u
   pub until : u < tableSize w h + h
-  pub rows : RowsFit w (u - tableSize w h) above last live
+  pub rows : Rows w (u - tableSize w h) above last live
 
 pub record Finished (w h u above last score : ℕ) : Type 0 where
   pub over : above < 2 ^ w
   pub below : last < 2 ^ w
   pub whole : u ≡ tableSize w h + h
-  pub rows : RowsFit w h above last score
-
-pub record Early (w h u above last live : ℕ) : Type 0 where
-  pub over : above < 2 ^ w
-  pub below : last < 2 ^ w
-  pub until : u < tableSize w h
-  pub rows : RowsFit w (u - tableSize w h) above last live
+  pub rows : Rows w (u - tableSize w h) above last score
 
 abbrev pub Fits : ℕ → ℕ → ℕ → Stage → Type 0
 Fits w h u (Stage.Filling above last live) = Early w h u above last live
@@ -159,79 +118,45 @@ Fits w h u (Stage.Choosing above last live) = Choosing w h u above last live
 Fits w h u (Stage.Finished above last score) = Finished w h u above last score
 Fits w h u Stage.Infeasible = u ≡ tableSize w h + 1
 
-abbrev pub jobAt : Rule → ℕ → ℕ → ℕ → Stage → Job
-jobAt rule w h u s = record { rule = rule; width = w; height = h; units = u; stage = s }
-
--- no row is chosen
-pub no-rows : {w k : ℕ} → RowsFit w k 0 0 0
-no-rows = record { few = omega arith; none = λ q. refl; one = λ q. refl }
-
-numbers-fit : (rule : Rule) (w h u : ℕ) (s : Stage) → Frame rule w h → Fits w h u s → NumbersFit (numbersOf (jobAt rule w h u s))
-unfolding rowsChosen
-numbers-fit rule w h u (Stage.Filling above last live) z f = record { frame = z; over = f .over; below = f .below; units = runs (omega (arith, f .until)); rows = f .rows }
-numbers-fit rule w h u (Stage.Choosing above last live) z f =
-    record { frame = z; over = f .over; below = f .below; units = runs (f .until); rows = f .rows }
-numbers-fit rule w h u (Stage.Finished above last score) z f =
-    let e : u - tableSize w h ≡ h = omega (arith, f .whole) in
-    record { frame = z; over = f .over; below = f .below; units = ends (f .whole); rows = rw e (f .rows) }
-numbers-fit rule w h u Stage.Infeasible z f = record { frame = z; over = pow-pos w; below = pow-pos w; units = fails f; rows = no-rows }
-
-stage-fits : (w h u : ℕ) (s : Stage) → Fits w h u s → stageFits w h u s ≡ true
-stage-fits w h u (Stage.Filling above last live) f = lt-ltb u (tableSize w h) (f .until)
-stage-fits w h u (Stage.Choosing above last live) f = le-leb (tableSize w h) u (f .from)
-stage-fits w h u (Stage.Finished above last score) f = refl
-stage-fits w h u Stage.Infeasible f = refl
-
-pub fits-of : (rule : Rule) (w h u : ℕ) (s : Stage) → Frame rule w h → Fits w h u s → jobFits (jobAt rule w h u s) ≡ true
-unfolding jobFits
-fits-of rule w h u s z f = and-true (numbers-of (numbersOf (jobAt rule w h u s)) (numbers-fit rule w h u s z f)) (stage-fits w h u s f)
-
 -- a size and a rule, and a stage that fits
 pub record Taken (rule : Rule) (w h u : ℕ) (s : Stage) : Type 0 where
   pub frame : Frame rule w h
   pub stage : Fits w h u s
 
-taken-at : (rule : Rule) (w h u : ℕ) (s : Stage) → NumbersFit (numbersOf (jobAt rule w h u s)) → stageFits w h u s ≡ true → Taken rule w h u s
+taken-at : (rule : Rule) (w h u : ℕ) (s : Stage) → NumbersFit (numbersOf (jobAt rule w h u s)) → stageFits (shapeOf w h) u s ≡ true → Taken rule w h u s
 unfolding rowsChosen
 taken-at rule w h u (Stage.Filling above last live) f e =
-    record { frame = f .frame; stage = record { over = f .over; below = f .below; until = ltb-true u (tableSize w h) e; rows = f .rows } }
-taken-at rule w h u (Stage.Choosing above last live) f e =
-    record { frame = f .frame; stage = record { over = f .over; below = f .below; from = leb-true (tableSize w h) u e; until = go (f .units); rows = f .rows } }
+    record { frame = f .frame; stage = record { over = f .are .over; below = f .are .below; until = fills-below w h u e; rows = f .are .rows } }
+taken-at rule w h u (Stage.Choosing above last live) f e = record {
+  frame = f .frame;
+  stage = record { over = f .are .over; below = f .are .below; from = chooses-from w h u (not-true _ e); until = go (f .are .units); rows = f .are .rows };
+}
   where
-    go : UnitsFit w h u 0 → u < tableSize w h + h
-    go (runs l) = l
+    go : Units (shapeOf w h) u 0 → u < tableSize w h + h
+    go (runs l) = omega (arith, board-long w h)
 taken-at rule w h u (Stage.Finished above last score) f e =
-    let q = go (f .units) in
-    let k : u - tableSize w h ≡ h = omega arith in
-    record { frame = f .frame; stage = record { over = f .over; below = f .below; whole = q; rows = rw k at (f .rows) } }
+    record { frame = f .frame; stage = record { over = f .are .over; below = f .are .below; whole = go (f .are .units); rows = f .are .rows } }
   where
-    go : UnitsFit w h u 1 → u ≡ tableSize w h + h
-    go (ends q) = q
-taken-at rule w h u Stage.Infeasible f e = record { frame = f .frame; stage = go (f .units) }
+    go : Units (shapeOf w h) u 1 → u ≡ tableSize w h + h
+    go (ends q) = q ∙ board-long w h
+taken-at rule w h u Stage.Infeasible f e = record { frame = f .frame; stage = go (f .are .units) }
   where
-    go : UnitsFit w h u 2 → u ≡ tableSize w h + 1
-    go (fails q) = q
-
-pub fits-numbers : (j : Job) → jobFits j ≡ true → checkpointFits (numbersOf j) ≡ true
-unfolding jobFits
-fits-numbers j e = and-left (checkpointFits (numbersOf j)) (stageFits (j .width) (j .height) (j .units) (j .stage)) e
+    go : Units (shapeOf w h) u 2 → u ≡ tableSize w h + 1
+    go (fails q) = q ∙ none-long w h
 
 pub fits-at : (j : Job) → jobFits j ≡ true → Taken (j .rule) (j .width) (j .height) (j .units) (j .stage)
-unfolding jobFits
-fits-at j e =
-    taken-at (j .rule) (j .width) (j .height) (j .units) (j .stage) (numbers-at (numbersOf j) (fits-numbers j e))
-    (and-right (checkpointFits (numbersOf j)) (stageFits (j .width) (j .height) (j .units) (j .stage)) e)
+fits-at j e = taken-at (j .rule) (j .width) (j .height) (j .units) (j .stage) (numbers-at (numbersOf j) (fits-numbers j e)) (fits-stage j e)
 
 -- ---- pausing and resuming
-stage-back : (rule : Rule) (w h u : ℕ) (s : Stage) → Fits w h u s → stageOf (numbersOf (jobAt rule w h u s)) ≡ s
+stage-back : (rule : Rule) (w h u : ℕ) (s : Stage) → stageFits (shapeOf w h) u s ≡ true → stageOf (numbersOf (jobAt rule w h u s)) ≡ s
 unfolding stageOf
-stage-back rule w h u (Stage.Filling above last live) f = rw (lt-ltb u (tableSize w h) (f .until))
-stage-back rule w h u (Stage.Choosing above last live) f = rw (le-ltb u (tableSize w h) (f .from))
-stage-back rule w h u (Stage.Finished above last score) f = refl
-stage-back rule w h u Stage.Infeasible f = refl
+stage-back rule w h u (Stage.Filling above last live) e = rw e
+stage-back rule w h u (Stage.Choosing above last live) e = rw (not-true (isFill (shapeOf w h .plan u)) e)
+stage-back rule w h u (Stage.Finished above last score) e = refl
+stage-back rule w h u Stage.Infeasible e = refl
 
 pub job-back : (j : Job) → jobFits j ≡ true → jobOf (numbersOf j) ≡ j
-job-back j e = ap (jobAt (j .rule) (j .width) (j .height) (j .units)) (stage-back (j .rule) (j .width) (j .height) (j .units) (j .stage) (fits-at j e .stage))
+job-back j e = ap (jobAt (j .rule) (j .width) (j .height) (j .units)) (stage-back (j .rule) (j .width) (j .height) (j .units) (j .stage) (fits-stage j e))
 
 pub pausable : (j : Job) → jobFits j ≡ true → Pausable j
 unfolding pauseRule resumeRule

@@ -8,7 +8,8 @@ mod numbers;
 mod units;
 
 ghost use mathlib.Core.Path.{_≡_};
-ghost use Rattle.job.specs.Jobs.{nextJob};
+ghost use Rattle.board.specs.Answers.{checkSays};
+ghost use Rattle.job.specs.Jobs.{readCheck, nextJob};
 ghost use Rattle.job.specs.Calls.{Opens, Pauses, Resumes};
 
 // What a job does next, with that stage's numbers: the last two rows chosen, and the live cells so far that were free.
@@ -85,7 +86,7 @@ pub fn open(rule: Rule, width: usize, height: usize, givens: &[u8]) -> Opened
     if let Check::Refused(r) = rule::check(rule, width, height) {
         return Opened::Refused(r);
     }
-    if let Check::Refused(r) = board::check_givens(width, height, givens) {
+    if let Check::Refused(r) = check_read(width, height, givens) {
         return Opened::Refused(r);
     }
     Opened::Ready(Job {
@@ -99,6 +100,13 @@ pub fn open(rule: Rule, width: usize, height: usize, givens: &[u8]) -> Opened
             live: 0,
         },
     })
+}
+
+// The checks of what is lent to be read, by opening and by working: 3, 4.
+pub fn check_read(width: usize, height: usize, givens: &[u8]) -> Check
+    ensures { λ r. ⌜ checkSays r ≡ readCheck width height (now (givens .entry)) ⌝ }
+{
+    board::check_givens(width, height, givens)
 }
 
 impl Checkpoint {

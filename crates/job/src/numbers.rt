@@ -7,7 +7,8 @@ use rule::Rule;
 ghost use mathlib.Core.Path.{_≡_};
 ghost use Prim.Native.Nat.{_≤_};
 ghost use Rattle.board.specs.Checks.{tableSize};
-ghost use Rattle.job.specs.Jobs.{ruleOf, unitsFit, rowsChosen, rowsFit, checkpointFits, stageFits, jobFits, numbersOf, stageOf};
+ghost use Rattle.elimination.specs.Shape.{unitsFit, rowsChosen, rowsFit};
+ghost use Rattle.job.specs.Jobs.{shapeOf, ruleOf, checkpointFits, stageFits, jobFits, numbersOf, stageOf};
 
 // The entries of the table, h × 4^w.
 pub fn table_size(w: usize, h: usize) -> usize
@@ -20,7 +21,7 @@ pub fn table_size(w: usize, h: usize) -> usize
 // Whether the units fit the end mark.
 fn units_fit(w: usize, h: usize, units: usize, mark: usize) -> bool
     requires { ⌜ (w ≤ 10) × (h ≤ 60) ⌝ }
-    ensures { λ r. ⌜ r ≡ unitsFit w h units mark ⌝ }
+    ensures { λ r. ⌜ r ≡ unitsFit (shapeOf w h) units mark ⌝ }
 {
     let entries = table_size(w, h);
     match mark {
@@ -34,7 +35,7 @@ fn units_fit(w: usize, h: usize, units: usize, mark: usize) -> bool
 // The rows chosen.
 fn rows_chosen(w: usize, h: usize, units: usize, mark: usize) -> usize
     requires { ⌜ (w ≤ 10) × (h ≤ 60) ⌝ }
-    ensures { λ r. ⌜ r ≡ rowsChosen w h units mark ⌝ }
+    ensures { λ r. ⌜ r ≡ rowsChosen (shapeOf w h) units mark ⌝ }
 {
     if mark == 2 {
         return 0;
@@ -91,10 +92,10 @@ pub fn checkpoint_fits(t: Checkpoint) -> bool
     rows_fit(w, k, t.above, t.last, t.live)
 }
 
-// Whether a running job fills while its units are below h × 4^w, and chooses from there on.
+// Whether a running job's stage is the task of its next unit: it fills while its units are below h × 4^w, and chooses from there on.
 fn stage_fits(w: usize, h: usize, units: usize, stage: Stage) -> bool
     requires { ⌜ (w ≤ 10) × (h ≤ 60) ⌝ }
-    ensures { λ r. ⌜ r ≡ stageFits w h units stage ⌝ }
+    ensures { λ r. ⌜ r ≡ stageFits (shapeOf w h) units stage ⌝ }
 {
     let entries = table_size(w, h);
     match stage {

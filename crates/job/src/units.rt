@@ -72,7 +72,7 @@ pub fn after_row(job: Job, last: usize, live: usize, row: usize, worth: usize) -
 
 // Where no row can be chosen.
 pub fn after_none(job: Job) -> Job
-    requires { ⌜ (job .width ≤ 10) × (job .height ≤ 60) ⌝ }
+    requires { ⌜ (job .width ≤ 10) × (job .height ≤ 60) × (tableSize (job .width) (job .height) ≤ job .units) ⌝ }
     ensures { λ r. ⌜ r ≡ noneDone job ⌝ }
 {
     let width = job.width;

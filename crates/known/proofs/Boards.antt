@@ -16,7 +16,8 @@ use Rattle.plaintext.specs.Lines.{linesOf}
 use Rattle.plaintext.specs.Reading as Reading
 use Rattle.score_table.specs.Rows.{markKept, rowKept, cellWorth, rowWorth}
 use Rattle.solver.specs.Rows.{written}
-use Rattle.job.specs.Jobs.{unitsFit, rowsChosen, rowsFit, checkpointFits, jobFits, stageOf}
+use Rattle.elimination.specs.Shape.{unitsFit, rowsChosen, rowsFit, numbersFit}
+use Rattle.job.specs.Jobs.{checkpointFits, jobFits, stageOf, readCheck}
 use Rattle.service.specs.Units.{unitBy}
 use Rattle.service.specs.Service.{workCheck, worksOn, workOf}
 use Rattle.solver.specs.Working.{lentCheck}
@@ -24,7 +25,7 @@ use Rattle.solver.specs.Units.{unitOf}
 use Rattle.known.specs.Known.{solved, Known}
 
 pub known : Known
-unfolding firstNot allBelow total sizeCheck cellsCheck givensCheck scan choose entry ruleCheck gridCheck nextUnder conway onPlane around cellOf becomes stepsTo nextAt keepsAt lifeCheck judged judgeRule linesOf Reading.judge Reading.judgeLines Reading.judged Reading.firstBad Reading.rowsOf Reading.widthOf Reading.sizeRule Reading.readRule markKept rowKept cellWorth rowWorth written tableSize unitsFit rowsChosen rowsFit checkpointFits jobFits stageOf workCheck lentCheck reads fillEntry plan unitBy unitOf worksOn workOf solved
+unfolding firstNot allBelow total sizeCheck cellsCheck givensCheck scan choose entry ruleCheck gridCheck nextUnder conway onPlane around cellOf becomes stepsTo nextAt keepsAt lifeCheck judged judgeRule linesOf Reading.judge Reading.judgeLines Reading.judged Reading.firstBad Reading.rowsOf Reading.widthOf Reading.sizeRule Reading.readRule markKept rowKept cellWorth rowWorth written tableSize unitsFit rowsChosen rowsFit numbersFit checkpointFits jobFits stageOf readCheck workCheck lentCheck reads fillEntry plan unitBy unitOf worksOn workOf solved
 known = record {
   m1 = refl;
   m2 = refl;

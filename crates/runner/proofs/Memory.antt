@@ -8,7 +8,6 @@ use borrow.Author.Tests.{eq-eqb, le-leb}
 use lib.ListN.{length}
 use Rattle.board.specs.Answers.{passed}
 use Rattle.board.specs.Boards.{Bytes, Givens}
-use Rattle.board.proofs.Checks.{marks-pass}
 use Rattle.rule.specs.Rule.{Allowed}
 use Rattle.rule.specs.declared.Rule.{Rule}
 use Rattle.rule.proofs.Rules.{grid-passes}
@@ -19,29 +18,28 @@ use Rattle.solver.specs.Working.{lentCheck}
 use Rattle.solver.specs.Units.{State, Step, unitOf, grid}
 use Rattle.job.specs.Calls.{Opens}
 use Rattle.solver.specs.Inner.{Lent}
-use Rattle.job.specs.declared.Stage.{Stage}
 use Rattle.job.specs.declared.Job.{Job}
 use Rattle.job.specs.declared.Opened.{Opened}
-use Rattle.job.proofs.Fits.{fits-of}
+use Rattle.job.proofs.Fits.{start-fits}
+use Rattle.job.proofs.ReadChecks.{read-passes}
 use Rattle.solver.proofs.UnitLaws.{unit-fits, unit-lent}
-use Rattle.solver.proofs.Progress.{start-early}
 use Rattle.runner.specs.Solving.{memoryCheck}
 
 -- ---- an opened job
 module _ {rule : Rule} (allowed : Allowed rule) {w h : ℕ} {g : List ℕ} (G : Givens w h g) where
   pub start-opens : Opens rule w h g (Opened.Ready (start rule w h))
   unfolding openRule
-  start-opens = record { says = rw (grid-passes rule (G .size) allowed, marks-pass (G .bytes)); job = λ j e. cc }
+  start-opens = record { says = rw (grid-passes rule (G .size) allowed, read-passes (G .bytes)); job = λ j e. cc }
 
   pub start-check : (t β : List ℕ) → workCheck grid (start rule w h) g t β ≡ memoryCheck w h t β
   unfolding workCheck lentCheck memoryCheck
-  start-check t β = rw (fits-of rule w h 0 (Stage.Filling 0 0 0) (record { size = G .size; allowed = allowed }) (start-early (G .size)), marks-pass (G .bytes))
+  start-check t β = rw (start-fits (record { size = G .size; allowed = allowed }), read-passes (G .bytes))
 
 -- ---- a call that passes
 pub check-passes : (j : Job) (g t β : List ℕ) → Bytes 2 (j .width) (j .height) g → Lent j g t β → workCheck grid j g t β ≡ passed
 unfolding workCheck lentCheck
 check-passes j g t β b L =
-    rw (L .taken, marks-pass b, eq-eqb (length β) (j .width * j .height) (L .cells), le-leb (tableSize (j .width) (j .height)) (length t) (L .entries))
+    rw (L .taken, read-passes b, eq-eqb (length β) (j .width * j .height) (L .cells), le-leb (tableSize (j .width) (j .height)) (length t) (L .entries))
 
 -- a state of the same grid that passes again
 pub record Kept (g : List ℕ) (s s′ : State) : Type 0 where

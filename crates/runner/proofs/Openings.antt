@@ -5,14 +5,13 @@ use mathlib.Core.List.{List}
 use Prim.Native.Nat.{ℕ}
 use Rattle.board.specs.Answers.{Answer, gives, refuses, refusalSays, _then_}
 use Rattle.board.specs.Boards.{Givens}
-use Rattle.board.specs.Checks.{givensCheck}
 use Rattle.board.specs.declared.Refusal.{Refusal}
 use Rattle.board.proofs.Answers.{refuses-none, then-gives}
-use Rattle.board.proofs.Checks.{marks-of, marks-pass}
 use Rattle.rule.specs.Rule.{Allowed, gridCheck}
 use Rattle.rule.specs.declared.Rule.{Rule}
 use Rattle.rule.proofs.Rules.{grid-allowed, grid-passes}
-use Rattle.job.specs.Jobs.{start, jobSays, openRule, openedSays}
+use Rattle.job.specs.Jobs.{start, jobSays, readCheck, openRule, openedSays}
+use Rattle.job.proofs.ReadChecks.{read-marks, read-passes}
 use Rattle.job.specs.Calls.{Opens}
 use Rattle.job.specs.declared.Job.{Job}
 use Rattle.job.specs.declared.Opened.{Opened}
@@ -30,7 +29,7 @@ module _ {rule : Rule} {w h : ℕ} {g : List ℕ} {o : Opened} (O : Opens rule w
   unfolding openRule solveCheck
   refused-solves {r} e t β =
       let c : solveCheck rule w h g t β ≡ refusalSays r =
-      refused-then (gridCheck rule w h) (givensCheck w h g) (jobSays (start rule w h)) (sym (ap openedSays e) ∙ O .says) (memoryCheck w h t β) in record {
+      refused-then (gridCheck rule w h) (readCheck w h g) (jobSays (start rule w h)) (sym (ap openedSays e) ∙ O .says) (memoryCheck w h t β) in record {
         comes = record {
           turned = λ n values q. (sym c ∙ q, refl, refl);
           ended = λ q. absurd (refuses-none (sym c ∙ q));
@@ -42,10 +41,10 @@ module _ {rule : Rule} {w h : ℕ} {g : List ℕ} {o : Opened} (O : Opens rule w
     opened-grid : Givens w h g × Allowed rule
     unfolding openRule
     opened-grid =
-        let p = then-gives (gridCheck rule w h) (givensCheck w h g then gives (jobSays (start rule w h))) (sym (O .says) ∙ ap openedSays e) in
-        let q = then-gives (givensCheck w h g) (gives (jobSays (start rule w h))) (p .1) in
+        let p = then-gives (gridCheck rule w h) (readCheck w h g then gives (jobSays (start rule w h))) (sym (O .says) ∙ ap openedSays e) in
+        let q = then-gives (readCheck w h g) (gives (jobSays (start rule w h))) (p .1) in
         let r = grid-allowed rule w h (p .0 .1) in
-        (record { size = r .0; bytes = marks-of w h g (q .0 .1) }, r .1)
+        (record { size = r .0; bytes = read-marks w h g (q .0 .1) }, r .1)
 
     pub opened-ready : Ready j g
     opened-ready = rw (O .job j e) (record { fresh = refl; allowed = opened-grid .1; grid = opened-grid .0 })
@@ -53,4 +52,4 @@ module _ {rule : Rule} {w h : ℕ} {g : List ℕ} {o : Opened} (O : Opens rule w
     pub run-solves : {t β t′ β′ : List ℕ} {r : Solved} → Runs j g t β r t′ β′ → Solves rule w h g t β r t′ β′
     unfolding solveCheck
     run-solves R =
-        record { comes = rw (grid-passes rule (opened-grid .0 .size) (opened-grid .1), marks-pass (opened-grid .0 .bytes)) (rw (O .job j e) at (R .comes)) }
+        record { comes = rw (grid-passes rule (opened-grid .0 .size) (opened-grid .1), read-passes (opened-grid .0 .bytes)) (rw (O .job j e) at (R .comes)) }

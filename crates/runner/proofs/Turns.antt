@@ -26,7 +26,7 @@ use Rattle.solver.specs.Demand.{Filled, gridKind, ThirdDemand}
 use Rattle.job.specs.declared.Job.{Job}
 use Rattle.job.specs.declared.Opened.{Opened}
 use Rattle.solver.proofs.CheckLaws.{work-checked, lent-of}
-use Rattle.solver.proofs.Progress.{table-pos}
+use Rattle.job.proofs.Shapes.{table-pos}
 use Rattle.solver.proofs.Third.{third-demand}
 use Rattle.runner.specs.Solving.{memoryCheck, solvedSays, Ends, best, none, Comes, Ready, Runs}
 use Rattle.runner.specs.declared.Solved.{Solved}
@@ -138,7 +138,7 @@ module _ {rule : Rule} (permitted : Allowed rule) {w h : ℕ} {g : List ℕ} (G 
     fair = tt;
     comes = refl;
     sum = refl;
-    below = omega (arith, table-pos (G .size));
+    below = omega (arith, table-pos w h (G .size .some-row));
     width = refl;
     height = refl;
     check = start-check permitted G t₀ β₀;

@@ -5,11 +5,11 @@ use mathlib.Core.List.{List}
 use Prim.Native.Nat.{ℕ}
 use Rattle.board.specs.Answers.{Answer, refuses, passed, refusalSays, _then_}
 use Rattle.board.specs.Boards.{Givens}
-use Rattle.board.specs.Checks.{givensCheck, lengthCheck, tableSize, tableCheck}
+use Rattle.board.specs.Checks.{lengthCheck, tableSize, tableCheck}
 use Rattle.rule.specs.Rule.{Allowed, gridCheck}
 use Rattle.rule.specs.declared.Rule.{Rule}
 use Rattle.solver.specs.Grid.{Solution, Optimal, score}
-use Rattle.job.specs.Jobs.{start}
+use Rattle.job.specs.Jobs.{start, readCheck}
 use Rattle.service.specs.Service.{finished, infeasible}
 use Rattle.solver.specs.Demand.{Filled}
 use Rattle.job.specs.declared.Job.{Job}
@@ -26,7 +26,7 @@ unfoldable pub memoryCheck : ℕ → ℕ → List ℕ → List ℕ → Answer
 memoryCheck w h table board = lengthCheck 5 w h board then tableCheck w h table
 
 unfoldable pub solveCheck : Rule → ℕ → ℕ → List ℕ → List ℕ → List ℕ → Answer
-solveCheck rule w h givens table board = gridCheck rule w h then givensCheck w h givens then memoryCheck w h table board
+solveCheck rule w h givens table board = gridCheck rule w h then readCheck w h givens then memoryCheck w h table board
 
 -- the board that is left is the wanted one, and the answer its score; or there is no still board that keeps the givens, the answer says so, and
 -- the board is unwritten

@@ -1,6 +1,6 @@
 -- The places of a grid's table are row elimination's.
 -- Assumes nothing.
-use mathlib.Core.Path.{_≡_, sym, _∙_, ap}
+use mathlib.Core.Path.{_≡_, sym, _∙_}
 use Prim.Native.Nat.{ℕ, _+_, _*_, _-_, _/_, _%_, _^_, _<_}
 use native.Mathlib.Nat.{div-add-mod'}
 use native.Mathlib.Omega.{arith}
@@ -8,11 +8,7 @@ use Rattle.elimination.specs.Filling as Filling
 use Rattle.elimination.proofs.Filling.{place-digits, place-lt}
 use Rattle.board.specs.Checks.{tableSize}
 use Rattle.score_table.specs.ScoreTable.{placeOf, unitPlace}
-use Rattle.board.proofs.Powers.{four-two}
-
-pub table-four : (w h : ℕ) → tableSize w h ≡ h * (2 ^ w * 2 ^ w)
-unfolding tableSize
-table-four w h = ap (λ (q : ℕ). h * q) (four-two w)
+use Rattle.board.proofs.Powers.{four-two, table-four}
 
 -- the place that a unit writes, by its layer and its place there
 pub unit-place : (w h u : ℕ) → unitPlace w h u ≡ (h - 1 - u / 4 ^ w) * 4 ^ w + u % 4 ^ w

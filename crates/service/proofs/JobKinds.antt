@@ -32,6 +32,7 @@ use Rattle.service.specs.Service.{stageSays, State, Step}
 use Rattle.service.specs.Service as Service
 use Rattle.service.specs.Laws.{Follows, Course, Comes, toBoard, toNone, Lawful}
 use Rattle.service.specs.JobKinds.{JobKind, Best, aimOf, serviceOf, KindLaws, Opened, KindMeetsDemand}
+use Rattle.service.proofs.Numbers.{continues}
 use Rattle.service.proofs.Units.{markIn, viewOf, view, Here, follows}
 use Rattle.service.proofs.Demand.{meets-demand}
 
@@ -69,7 +70,7 @@ module _ (Given : Type 0) (check : Job → Given → List ℕ → List ℕ → A
   J = K .setup
 
   abbrev F : Follows (serviceOf Given check unit) given (machine (K .setup))
-  F = follows Given check unit given (K .setup) (L .laws) (K .Of) (L .continues) (L .units)
+  F = follows Given check unit given (K .setup) (L .laws) (K .Of) (continues (K .setup) (K .shape) (K .Of) (L .numbered)) (L .units)
 
   abbrev first : Run
   first = opened (K .setup .kind) (s .table) (s .board)
@@ -87,7 +88,7 @@ module _ (Given : Type 0) (check : Job → Given → List ℕ → List ℕ → A
       (last : after long .board ≡ wanted) where
     progress : (m : ℕ) → m ≤ long → (e : State (List ℕ)) → F .Here e → view e ≡ after m → K .Progress wanted s e
     progress m l e H i =
-        let P = progress-made ℕ J (K .shape) (K .shape .entries) (K .width) long (L .plans) (L .shaped) (L .orderly) (L .wide) (L .writer) within (s .table) (s .board) room lasts m l in
+        let P = progress-made ℕ J (K .shape) (K .shape .entries) (K .width) long (L .numbered .plans) (L .numbered .shaped) (L .orderly) (L .wide) (L .writer) within (s .table) (s .board) room lasts m l in
         let u : e .job .units ≡ m = ap Elimination.done i ∙ lasts .counted m l in
         let t : e .table ≡ after m .table = ap tableIn i in
         let b : e .board ≡ after m .board = ap boardIn i in
@@ -172,7 +173,7 @@ module _ (Given : Type 0) (check : Job → Given → List ℕ → List ℕ → A
   begins wanted =
       L .progress wanted s s (B .of) (B .fits) (λ m. absurd (omega (arith, B .mark)))
       (rw (B .units) (record { size = refl; right = λ p k j S. absurd (omega (arith, S .before)); rest = λ p f. refl }))
-      (let k : K .shape .chosen (s .job .units) ≡ 0 = ap (K .shape .chosen) (B .units) ∙ L .shaped .none-chosen in
+      (let k : K .shape .chosen (s .job .units) ≡ 0 = ap (K .shape .chosen) (B .units) ∙ L .numbered .shaped .none-chosen in
       rw k (record { size = refl; rows = λ p l. absurd (omega arith); rest = λ p l. refl }))
 
   lengths : 0 < K .shape .noneLength

@@ -12,14 +12,14 @@ use Rattle.elimination.specs.Job.{Setup}
 use Rattle.elimination.specs.Plan.{Schedule}
 use Rattle.elimination.specs.Completion.{writeRows}
 use Rattle.elimination.specs.Places.{Filled, Orderly, Scheduled}
-use Rattle.elimination.specs.Shape.{Shape, ShapeLaws}
+use Rattle.elimination.specs.Shape.{Shape}
 use Rattle.elimination.specs.Progress.{RowWriter, Written}
 use Rattle.job.specs.Jobs.{jobFits, markOf, liveOf, aboveOf, lastOf}
 use Rattle.job.specs.declared.Job.{Job}
 use Rattle.service.specs.Service.{finished, State, Step, Service}
 use Rattle.service.specs.Demand.{Aim, Demand}
 use Rattle.service.specs.Laws.{ChecksSound}
-use Rattle.service.specs.Units.{unitBy, Continues}
+use Rattle.service.specs.Units.{unitBy, Numbered}
 
 -- What a kind of job fixes, for an opened job: its rule, width and height, and what is lent to be read.
 pub record JobKind : Type 1 where
@@ -64,17 +64,15 @@ module _ (Given : Type 0) (check : Job → Given → List ℕ → List ℕ → A
     pub laws : Laws (K .setup .kind) (K .setup .height)
     pub high : 0 < K .setup .height
     pub wide : 0 < K .setup .kind .codes
-    pub plans : K .shape .plan ≡ K .setup .plan
-    pub shaped : ShapeLaws (K .shape)
     pub orderly : Orderly (K .setup .kind .codes) (K .setup .height) (K .shape .entries) (K .shape .boardLength) (K .setup .plan)
     pub course : Schedule
     pub scheduled : Scheduled (K .setup .height) (K .shape .boardLength) (K .setup .plan) course
     pub length-board : course .start (K .setup .height) ≡ K .shape .boardLength
     pub length-none : suc (course .work 0) ≡ K .shape .noneLength
     pub shorter : K .shape .noneLength ≤ K .shape .boardLength
-    -- the call: its units are the setup's, its numbers go on fitting, its checks leave room
+    -- the call: its numbers are of the shape, its units are the setup's, its checks leave room
+    pub numbered : Numbered (K .setup) (K .shape) (K .Of)
     pub units : (s : State (List ℕ)) → K .Of (s .job) → unit given s ≡ unitBy (K .setup) s
-    pub continues : Continues (K .setup) (K .Of)
     pub checks : ChecksSound (serviceOf Given check unit)
     pub room : (j : Job) (t β : List ℕ) → K .Of j → check j given t β ≡ passed → (length β ≡ K .cells) × (K .shape .entries ≤ length t)
     pub zero-start : K .setup .kind .start ≡ 0

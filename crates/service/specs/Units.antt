@@ -4,14 +4,15 @@
 use mathlib.Core.Path.{_≡_}
 use mathlib.Core.Bool.{true, cond}
 use mathlib.Core.List.{List}
-use Prim.Native.Nat.{ℕ, zero, suc, _+_, _-_, _<_}
+use Prim.Native.Nat.{ℕ, zero, suc, _+_, _-_, _≤_, _<_}
 use lib.Dec.{ltb}
 use Rattle.elimination.specs.Candidates.{Choice, nothing, chosen}
 use Rattle.elimination.specs.Kind.{Kind, choose}
 use Rattle.elimination.specs.Table.{reads, fillEntry}
 use Rattle.elimination.specs.Task.{Task, fill, row}
 use Rattle.elimination.specs.Job.{Setup}
-use Rattle.job.specs.Jobs.{aboveOf, lastOf, liveOf, markOf, jobOf, jobFits, checkpointFits}
+use Rattle.elimination.specs.Shape.{Shape, ShapeLaws}
+use Rattle.job.specs.Jobs.{aboveOf, lastOf, liveOf, markOf, shapeOf, jobOf, jobFits, checkpointFits}
 use Rattle.job.specs.declared.Job.{Job}
 use Rattle.job.specs.declared.Checkpoint.{Checkpoint}
 use Rattle.service.specs.Service.{State, Step, next, spoiled}
@@ -87,7 +88,7 @@ module _ (J : Setup ℕ (List ℕ)) where
   unfoldable pub unitBy : State (List ℕ) → Step (List ℕ)
   unitBy s = markStep (markOf (s .job .stage)) (J .plan (s .job .units)) s
 
-  -- What a kind's numbers have to show: from numbers that fit, of a running job, the next ones fit. `Of` says which jobs are the setup's.
+  -- The numbers go on: from numbers that fit, of a running job, the next ones fit. `Of` says which jobs are the setup's.
   pub record Continues (Of : Job → Type 0) : Type 0 where
     pub after-entry : (j : Job) → Of j → jobFits j ≡ true → markOf (j .stage) ≡ 0 → (k source target i : ℕ) → J .plan (j .units) ≡ fill k source target i
         → checkpointFits (entryNumbers j) ≡ true
@@ -98,3 +99,18 @@ module _ (J : Setup ℕ (List ℕ)) where
     -- and a job of other numbers of this rule and size is the setup's too
     pub same : (j : Job) (t : Checkpoint) → Of j → t .width ≡ j .width → t .height ≡ j .height → t .births ≡ j .rule .births → t .survivals ≡ j .rule .survivals
         → Of (jobOf t)
+
+  -- What a kind has to show for that: its shape is lawful and the setup's, its jobs are of this shape, and a row adds at most what the shape says.
+  pub record Numbered (S : Shape) (Of : Job → Type 0) : Type 0 where
+    pub shaped : ShapeLaws S
+    pub plans : S .plan ≡ J .plan
+    pub rows : S .rows ≡ J .height
+    pub codes : S .codes ≡ J .kind .codes
+    pub is : (j : Job) → Of j → shapeOf (j .width) (j .height) ≡ S
+    pub earns : (k c n : ℕ) → (n ≤ J .kind .add k c n) × (J .kind .add k c n ≤ S .most + n)
+    pub same : (j : Job) (t : Checkpoint) → Of j → t .width ≡ j .width → t .height ≡ j .height → t .births ≡ j .rule .births → t .survivals ≡ j .rule .survivals
+        → Of (jobOf t)
+
+  -- THE THEOREM of a job's numbers, for every shape
+  abbrev pub NumbersContinue : Type 1
+  NumbersContinue = (S : Shape) (Of : Job → Type 0) → Numbered S Of → Continues Of

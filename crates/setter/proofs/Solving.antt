@@ -10,10 +10,11 @@ use lib.ListN.{length}
 use Rattle.board.specs.Answers.{Answer, gives, refuses, passed, _then_, refuseUnless}
 use Rattle.board.specs.Boards.{Board}
 use Rattle.board.specs.declared.Refusal.{Refusal}
-use Rattle.board.specs.Checks.{givensCheck, lengthCheck, tableSize, tableCheck}
+use Rattle.board.specs.Checks.{lengthCheck, tableSize, tableCheck}
 use Rattle.board.proofs.Answers.{refuses-none, then-gives, unless-gives}
 use Rattle.rule.specs.Rule.{conwayRule, gridCheck}
 use Rattle.writer.specs.Writing.{textLength, textOver}
+use Rattle.job.specs.Jobs.{readCheck}
 use Rattle.service.specs.Service.{finished, infeasible}
 use Rattle.runner.specs.Solving.{memoryCheck, solveCheck, solvedSays, Ends, best, none, Comes, Solves}
 use Rattle.runner.specs.declared.Solved as Solved
@@ -27,8 +28,8 @@ unless-passed t n e = sym e ∙ rw (unless-gives t n e) refl
 check-passed : (w h : ℕ) (g t β : List ℕ) {values : List ℕ} → solveCheck conwayRule w h g t β ≡ gives values → solveCheck conwayRule w h g t β ≡ passed
 unfolding solveCheck memoryCheck
 check-passed w h g t β e =
-    let a = then-gives (gridCheck conwayRule w h) (givensCheck w h g then memoryCheck w h t β) e in
-    let b = then-gives (givensCheck w h g) (memoryCheck w h t β) (a .1) in
+    let a = then-gives (gridCheck conwayRule w h) (readCheck w h g then memoryCheck w h t β) e in
+    let b = then-gives (readCheck w h g) (memoryCheck w h t β) (a .1) in
     let c = then-gives (lengthCheck 5 w h β) (tableCheck w h t) (b .1) in
     e ∙ unless-passed (leb (tableSize w h) (length t)) 6 (c .1)
 

@@ -13,8 +13,8 @@ use Rattle.board.specs.Search.{firstNot}
 use Rattle.board.specs.Answers.{Answer, gives, refuses, _then_, refuseUnless, refuseAt}
 use Rattle.board.specs.Checks.{givensCheck, lengthCheck, bytesCheck, atMost, tableSize, tableCheck}
 use Rattle.board.proofs.Answers.{refuses-none, then-gives, unless-gives}
-use Rattle.board.proofs.Checks.{marks-of}
-use Rattle.job.specs.Jobs.{pauseRule}
+use Rattle.job.specs.Jobs.{pauseRule, readCheck}
+use Rattle.job.proofs.ReadChecks.{read-marks}
 use Rattle.service.specs.Service.{workCheck}
 use Rattle.service.specs.Laws.{Checked, ChecksSound}
 use Rattle.service.proofs.Calls.{checked-then, checked-unless, work-passed}
@@ -39,16 +39,16 @@ module _ (j : Job) (g t β : List ℕ) where
   abbrev cellsCheck : Answer
   cellsCheck = lengthCheck 5 (j .width) (j .height) β
 
-  marks-checked : Checked (givensCheck (j .width) (j .height) g)
-  unfolding givensCheck
-  marks-checked =
+  read-checked : Checked (readCheck (j .width) (j .height) g)
+  unfolding readCheck givensCheck
+  read-checked =
       checked-then (lengthCheck 3 (j .width) (j .height) g) (bytesCheck 4 2 g) (checked-unless (eqb (length g) (j .width * j .height)) 3 (λ e. omega arith))
       (checked-at (firstNot (atMost 2 g) (length g)) 4 (λ e. omega arith))
 
   lent-checked : Checked (lentCheck j g t β)
   unfolding lentCheck
   lent-checked =
-      checked-then (givensCheck (j .width) (j .height) g) (cellsCheck then entriesCheck) marks-checked
+      checked-then (readCheck (j .width) (j .height) g) (cellsCheck then entriesCheck) read-checked
       (checked-then cellsCheck entriesCheck (checked-unless (eqb (length β) (j .width * j .height)) 5 (λ e. omega arith))
       (checked-unless (leb (tableSize (j .width) (j .height)) (length t)) 6 (λ e. omega arith)))
 
@@ -56,7 +56,7 @@ module _ (j : Job) (g t β : List ℕ) where
   pub lent-passed : {values : List ℕ} → lentCheck j g t β ≡ gives values → (length β ≡ j .width * j .height) × (tableSize (j .width) (j .height) ≤ length t)
   unfolding lentCheck
   lent-passed e =
-      let b = then-gives (givensCheck (j .width) (j .height) g) (cellsCheck then entriesCheck) e in
+      let b = then-gives (readCheck (j .width) (j .height) g) (cellsCheck then entriesCheck) e in
       let c = then-gives cellsCheck entriesCheck (b .1) in (
         eqb-true (length β) (j .width * j .height) (unless-gives (eqb (length β) (j .width * j .height)) 5 (c .0 .1)),
         leb-true (tableSize (j .width) (j .height)) (length t) (unless-gives (leb (tableSize (j .width) (j .height)) (length t)) 6 (c .1)),
@@ -66,9 +66,9 @@ module _ (j : Job) (g t β : List ℕ) where
   unfolding lentCheck
   lent-of e =
       let p = work-passed grid j g t β e in
-      let b = then-gives (givensCheck (j .width) (j .height) g) (cellsCheck then entriesCheck) (p .1) in
+      let b = then-gives (readCheck (j .width) (j .height) g) (cellsCheck then entriesCheck) (p .1) in
       let c = lent-passed (p .1) in
-      record { taken = p .0; marks = marks-of (j .width) (j .height) g (b .0 .1) .long; cells = c .0; entries = c .1 }
+      record { taken = p .0; marks = read-marks (j .width) (j .height) g (b .0 .1) .long; cells = c .0; entries = c .1 }
 
 pub checks-sound : ChecksSound grid
 checks-sound j g t β = lent-checked j g t β

@@ -5,11 +5,8 @@ use mathlib.Core.Bool.{Bool, true, false, true≢false}
 use mathlib.Core.List.{List}
 use mathlib.Core.Logic.{⊎-elim}
 use Prim.Native.Nat.{ℕ, suc, _+_, _*_, _-_, _^_, _≤_, _<_, min}
-use native.Mathlib.Nat.{mul-le-mul}
 use native.Mathlib.Omega.{arith}
-use lib.Pow.{pow-pos}
 use lib.ListN.{length, getD}
-use Rattle.board.specs.Boards.{Sized}
 use Rattle.board.specs.Checks.{tableSize}
 use Rattle.elimination.specs.Filling.{rightAtUnit}
 use Rattle.elimination.specs.FillThenChoose.{plan}
@@ -22,23 +19,13 @@ use Rattle.elimination.proofs.Whole.{stands, writes-not}
 use Rattle.rule.specs.declared.Rule.{Rule}
 use Rattle.job.specs.Jobs.{markOf}
 use Rattle.job.specs.declared.Stage.{Stage}
-use Rattle.job.proofs.Fits.{Frame, Fits, no-rows}
-use Rattle.score_table.proofs.Places.{table-four, place-same}
+use Rattle.job.proofs.Fits.{Frame, Fits}
+use Rattle.board.proofs.Powers.{table-four}
+use Rattle.score_table.proofs.Places.{place-same}
 use Rattle.solver.specs.Units.{State}
 use Rattle.solver.specs.Demand.{Filled, Written, chosenIn, chosenRows, idleUnits, Progress, Of}
 use Rattle.solver.proofs.Endings.{kind}
 use Rattle.solver.proofs.TableLaws.{right-same}
-
-pub table-pos : {w h : ℕ} → Sized w h → 0 < tableSize w h
-table-pos {w} {h} z =
-    let p : 0 < 2 ^ w = pow-pos w in
-    let q : 1 * 1 ≤ 2 ^ w * 2 ^ w = mul-le-mul p p in
-    let m : 1 * 1 ≤ h * (2 ^ w * 2 ^ w) = mul-le-mul (z .some-row) q in
-    omega (arith, table-four w h)
-
--- an opened job fits
-pub start-early : {w h : ℕ} → Sized w h → Fits w h 0 (Stage.Filling 0 0 0)
-start-early {w} {h} z = record { over = pow-pos w; below = pow-pos w; until = table-pos z; rows = no-rows }
 
 -- the units done are the entries written and the rows chosen
 units-split : (w h u : ℕ) (s : Stage) → Fits w h u s → u ≡ min u (tableSize w h) + chosenIn s (u - tableSize w h) + idleUnits s

@@ -6,7 +6,6 @@ use mathlib.Core.List.{List, []}
 use Prim.Native.Nat.{ℕ, zero, suc, _+_, _*_, _-_, _^_, _<_, _≤_}
 use native.Mathlib.Nat.{add-comm}
 use native.Mathlib.Omega.{arith}
-use borrow.Author.Tests.{le-ltb}
 use lib.Dec.{ltb}
 use lib.ListN.{set}
 use Rattle.board.specs.Answers.{Answer, refuses}
@@ -23,7 +22,8 @@ use Rattle.rule.specs.Rule.{nextUnder}
 use Rattle.score_table.specs.Rows.{rowWorth}
 use Rattle.score_table.specs.ScoreTable.{unitPlace, unitEntry, rowChoice}
 use Rattle.score_table.proofs.Marks.{row-worth-le}
-use Rattle.score_table.proofs.Places.{table-four, place-same}
+use Rattle.board.proofs.Powers.{table-four}
+use Rattle.score_table.proofs.Places.{place-same}
 use Rattle.job.specs.Jobs.{markOf, liveOf, jobFits, stageOf, jobOf, nextJob, afterEntry, afterRow, afterNone}
 use Rattle.job.specs.declared.Stage.{Stage}
 use Rattle.job.specs.declared.Job.{Job}
@@ -46,11 +46,11 @@ next-not-spoiled e = absurd (let z : _≡_ {A = ℕ} 0 1 = cc in omega arith)
 
 -- ---- a unit, in the terms of a grid's table
 -- the job of the next numbers
-row-job : (j : Job) (above last live : ℕ) → j .stage ≡ Stage.Choosing above last live → tableSize (j .width) (j .height) ≤ j .units → (r c n : ℕ) (b : Bool) → ltb (r + 1) (j .height) ≡ b
+row-job : (j : Job) (above last live : ℕ) → j .stage ≡ Stage.Choosing above last live → (r c n : ℕ) (b : Bool) → ltb (r + 1) (j .height) ≡ b
     → jobOf (rowNumbers (j .height) r j c n) ≡ afterRow (j .rule) (j .width) (j .height) (j .units) r last c n
 unfolding stageOf
-row-job j above last live e l r c n true p = rw (p, e, le-ltb (j .units + 1) (tableSize (j .width) (j .height)) (omega arith))
-row-job j above last live e l r c n false p = rw (p, e)
+row-job j above last live e r c n true p = rw (p, e)
+row-job j above last live e r c n false p = rw (p, e)
 
 module _ (j : Job) (g t β : List ℕ) where
   abbrev w : ℕ
@@ -115,7 +115,7 @@ module _ (j : Job) (above last : ℕ) (g t β : List ℕ) (C : Chooses j above l
       let y : ℕ = rowWorth (j .width) g ((j .height - suc (j .height - suc r)) * j .width) c in
       let v : y + liveOf (j .stage) ≡ C .live + x = add-comm y (liveOf (j .stage)) ∙ ap₂ (λ (a b : ℕ). a + b) (ap liveOf (C .stage)) (ap (λ (k : ℕ). rowWorth (j .width) g (k * j .width) c) d ∙ sym p) in
       let same : jobOf (rowNumbers (j .height) r j c (y + liveOf (j .stage))) ≡ j′ =
-      ap (λ (k : ℕ). jobOf (rowNumbers (j .height) r j c k)) v ∙ row-job j above last (C .live) (C .stage) (F .from) r c (C .live + x) (ltb (r + 1) (j .height)) refl
+      ap (λ (k : ℕ). jobOf (rowNumbers (j .height) r j c k)) v ∙ row-job j above last (C .live) (C .stage) r c (C .live + x) (ltb (r + 1) (j .height)) refl
       ∙ sym (q ∙ next-row j (C .lent .taken) (C .stage) r e c x l m) in record {
         step = ap (λ (i : Job). next (lentState i t (written (j .width) c β (r * j .width) (j .width)))) (sym same) ∙ comes (chosen c n) f;
         same = next-not-spoiled;

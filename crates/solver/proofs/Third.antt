@@ -8,44 +8,35 @@ use native.Mathlib.Omega.{arith}
 use lib.Pow.{pow-pos}
 use lib.ListN.{length}
 use Rattle.board.specs.Answers.{gives, passed, _then_}
-use Rattle.board.specs.Checks.{givensCheck, tableSize}
+use Rattle.board.specs.Checks.{tableSize}
 use Rattle.board.proofs.Answers.{then-gives}
-use Rattle.board.proofs.Powers.{four-two}
+use Rattle.board.proofs.Powers.{four-two, table-four}
 use Rattle.rule.specs.Rule.{gridCheck}
 use Rattle.rule.specs.declared.Rule.{Rule}
 use Rattle.rule.proofs.Rules.{grid-allowed}
 use Rattle.elimination.specs.FillThenChoose.{plan, schedule}
 use Rattle.elimination.specs.Places.{Orderly, Scheduled}
-use Rattle.elimination.specs.Shape.{Shape, ShapeLaws, whole}
+use Rattle.elimination.specs.Shape.{Shape}
 use Rattle.elimination.specs.Progress.{RowWriter}
 use Rattle.elimination.proofs.FillThenChoose.{schedule-lengths}
-use Rattle.elimination.proofs.Shape.{whole-lawful}
 use Rattle.elimination.proofs.Whole.{orderly, scheduled}
-use Rattle.job.specs.Jobs.{boardLength, noneLength, start, jobSays, openRule, openedSays}
-use Rattle.job.specs.declared.Stage.{Stage}
+use Rattle.job.specs.Jobs.{boardLength, start, jobSays, readCheck, openRule, openedSays}
 use Rattle.job.specs.declared.Job.{Job}
-use Rattle.job.proofs.Fits.{Frame, fits-of}
+use Rattle.job.proofs.Shapes.{shape-is}
+use Rattle.job.proofs.Fits.{Frame, start-fits}
 use Rattle.service.specs.Demand.{Demand}
 use Rattle.service.specs.JobKinds.{aimOf, KindLaws}
 use Rattle.service.proofs.JobKinds.{kind-meets-demand}
-use Rattle.score_table.proofs.Places.{table-four}
 use Rattle.solver.specs.Working.{lentCheck}
 use Rattle.solver.specs.Units.{putRow, unitOf, grid}
-use Rattle.solver.specs.Demand.{gridShape, gridKind, ThirdDemand}
+use Rattle.solver.specs.Demand.{gridKind, ThirdDemand}
 use Rattle.solver.specs.Theorems.{allRows}
 use Rattle.solver.proofs.Writing.{written-length}
 use Rattle.solver.proofs.Endings.{kind, kind-laws, solution-ends}
 use Rattle.solver.proofs.Optimum.{put-before, put-after, boardOf, into-same, is-total, optimal}
 use Rattle.solver.proofs.CheckLaws.{checks-sound, lent-passed}
-use Rattle.solver.proofs.Machine.{fits-here, continues, unit-same}
-use Rattle.solver.proofs.Progress.{start-early, progress}
-
--- the numbers of a grid's job are those of the plan that fills the whole table first
-shape-is : (w h : ℕ) → whole (2 ^ w) h w ≡ gridShape w h
-unfolding tableSize
-shape-is w h =
-    let b : h * (4 ^ w + 1) ≡ h * 4 ^ w + h = omega arith in
-    rw (b, four-two w)
+use Rattle.solver.proofs.Machine.{fits-here, numbered, unit-same}
+use Rattle.solver.proofs.Progress.{progress}
 
 long-is : (w h : ℕ) → h * (2 ^ w * 2 ^ w) + h ≡ boardLength w h
 long-is w h = ap (λ (S : Shape). S .boardLength) (shape-is w h)
@@ -59,16 +50,14 @@ module _ {rule : Rule} {w h : ℕ} (z : Frame rule w h) (g : List ℕ) where
     laws = kind-laws rule w h g (z .size);
     high = z .size .some-row;
     wide = pow-pos w;
-    plans = refl;
-    shaped = subst ShapeLaws (shape-is w h) (whole-lawful (2 ^ w) h w (z .size .some-row));
     orderly = rw (table-four w h, ← long-is w h) (orderly (2 ^ w) h some);
     course = schedule h (2 ^ w * 2 ^ w);
     scheduled = rw (← long-is w h) (scheduled h (2 ^ w * 2 ^ w));
     length-board = schedule-lengths h (2 ^ w * 2 ^ w) (z .size .some-row) .board ∙ ap (λ (q : ℕ). h * (q + 1)) (sym (four-two w));
     length-none = schedule-lengths h (2 ^ w * 2 ^ w) (z .size .some-row) .none ∙ ap (λ (q : ℕ). h * q + 1) (sym (four-two w));
     shorter = omega (arith, z .size .some-row);
+    numbered = numbered z g;
     units = unit-same z g;
-    continues = continues z g;
     checks = checks-sound;
     room = λ j t β O p. let L = lent-passed j g t β p in (rw (O .wide, O .tall) at (L .0), rw (O .wide, O .tall) at (L .1));
     zero-start = refl;
@@ -89,7 +78,7 @@ module _ {rule : Rule} {w h : ℕ} (z : Frame rule w h) (g : List ℕ) where
 opened-frame : (rule : Rule) (w h : ℕ) (g : List ℕ) (j : Job) → gives (jobSays j) ≡ openRule rule w h g → Frame rule w h
 unfolding openRule
 opened-frame rule w h g j e =
-    let p = grid-allowed rule w h (then-gives (gridCheck rule w h) (givensCheck w h g then gives (jobSays (start rule w h))) (sym e) .0 .1) in
+    let p = grid-allowed rule w h (then-gives (gridCheck rule w h) (readCheck w h g then gives (jobSays (start rule w h))) (sym e) .0 .1) in
     record { size = p .0; allowed = p .1 }
 
 pub third-demand : ThirdDemand
@@ -99,7 +88,7 @@ third-demand rule w h g t β r j O e =
     subst (λ (x : Job). Demand grid (aimOf (gridKind rule w h g)) g (record { job = x; table = t; board = β })) (sym (O .job j e))
     (kind-meets-demand (List ℕ) lentCheck unitOf g (gridKind rule w h g) (kind-shows z g) (record { job = start rule w h; table = t; board = β }) (record {
       of = record { ruled = refl; wide = refl; tall = refl };
-      fits = fits-of rule w h 0 (Stage.Filling 0 0 0) z (start-early (z .size));
+      fits = start-fits z;
       units = refl;
       mark = refl;
       above = refl;

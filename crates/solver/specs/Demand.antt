@@ -3,7 +3,7 @@
 -- Assumes nothing.
 use mathlib.Core.Path.{_≡_}
 use mathlib.Core.List.{List}
-use Prim.Native.Nat.{ℕ, _+_, _-_, _*_, _^_, _≤_, _<_, min}
+use Prim.Native.Nat.{ℕ, _+_, _-_, _*_, _≤_, _<_, min}
 use lib.ListN.{length, getD}
 use Rattle.elimination.specs.Kind.{rightEntry}
 use Rattle.rule.specs.Rule.{nextUnder}
@@ -11,13 +11,11 @@ use Rattle.rule.specs.declared.Rule.{Rule}
 use Rattle.solver.specs.Grid.{Solution, Optimal, score}
 use Rattle.score_table.specs.ScoreTable.{kindOf, rowsAfter, rowA, rowB, unitPlace}
 use Rattle.board.specs.Checks.{tableSize}
-use Rattle.job.specs.Jobs.{boardLength, noneLength}
+use Rattle.job.specs.Jobs.{shapeOf}
 use Rattle.job.specs.Calls.{Opens}
 use Rattle.job.specs.declared.Stage.{Stage}
 use Rattle.job.specs.declared.Job.{Job}
 use Rattle.job.specs.declared.Opened.{Opened}
-use Rattle.elimination.specs.FillThenChoose.{plan}
-use Rattle.elimination.specs.Shape.{Shape}
 use Rattle.service.specs.Demand.{Demand}
 use Rattle.service.specs.JobKinds.{JobKind, aimOf}
 use Rattle.solver.specs.Units.{State, setupOf, grid}
@@ -75,25 +73,12 @@ pub record Of (rule : Rule) (w h : ℕ) (j : Job) : Type 0 where
   pub wide : j .width ≡ w
   pub tall : j .height ≡ h
 
--- the numbers of a grid's job
-abbrev pub gridShape : ℕ → ℕ → Shape
-gridShape w h = record {
-  codes = 2 ^ w;
-  entries = tableSize w h;
-  rows = h;
-  plan = plan h (2 ^ w * 2 ^ w);
-  chosen = λ u. u - tableSize w h;
-  boardLength = boardLength w h;
-  noneLength = noneLength w h;
-  most = w;
-}
-
 -- A grid's job, as a kind of job: it is to come to the best board, first in board order among the best, and to its score, the live cells that were
 -- free (`SameBest` of `Theorems`: it is the best by all live cells too).
 abbrev pub gridKind : Rule → ℕ → ℕ → List ℕ → JobKind
 gridKind rule w h givens = record {
   setup = setupOf rule w h givens;
-  shape = gridShape w h;
+  shape = shapeOf w h;
   width = w;
   cells = w * h;
   Of = Of rule w h;

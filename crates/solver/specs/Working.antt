@@ -3,15 +3,16 @@
 use mathlib.Core.List.{List}
 use Prim.Native.Nat.{ℕ}
 use Rattle.board.specs.Answers.{Answer, refusalSays, _then_}
-use Rattle.board.specs.Checks.{givensCheck, lengthCheck, tableCheck}
+use Rattle.board.specs.Checks.{lengthCheck, tableCheck}
+use Rattle.job.specs.Jobs.{readCheck}
 use Rattle.job.specs.declared.Job.{Job}
 use Rattle.service.specs.Service.{unfinished, finished, infeasible}
 use Rattle.solver.specs.declared.Status.{Status}
 
--- the checks after 7: 3, 4, 5, 6
+-- the checks after 7: those of what is read, as opening makes them, then 5, 6
 unfoldable pub lentCheck : Job → List ℕ → List ℕ → List ℕ → Answer
 lentCheck j givens table board =
-    givensCheck (j .width) (j .height) givens then
+    readCheck (j .width) (j .height) givens then
     lengthCheck 5 (j .width) (j .height) board then
     tableCheck (j .width) (j .height) table
 

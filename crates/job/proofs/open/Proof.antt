@@ -37,8 +37,8 @@ returns c = refused (turned-away (c .before .before .before .check .ensures) (c 
 enum-told : tie.Need-enum-told
 enum-told c = search needs
 
-check-givens-requires : tie.Need-check-givens-requires
-check-givens-requires c κs = search needs
+check-read-requires : tie.Need-check-read-requires
+check-read-requires c κs = search needs
 
 enum-known-r-2 : tie.Need-enum-known-r-2
 enum-known-r-2 c = search needs
@@ -49,7 +49,7 @@ returns-2 c =
     let d = c .before .before .before in
     refused
     (passed-on (d .before .before .before .check .ensures) (d .before .enum-told .given .1)
-    (turned-away (d .check-givens .ensures) (c .before .r2 .given .1) _))
+    (turned-away (d .check-read .ensures) (c .before .r2 .given .1) _))
 
 enum-told-2 : tie.Need-enum-told-2
 enum-told-2 c = search needs
@@ -60,7 +60,7 @@ returns-3 c =
     let d = c .before .before in record {
       says =
           passed-on (d .before .before .before .check .ensures) (d .before .enum-told .given .1)
-          (passed-on (d .check-givens .ensures) (c .enum-told2 .given .1) refl);
+          (passed-on (d .check-read .ensures) (c .enum-told2 .given .1) refl);
       job = λ j e. handed e;
     }
 
@@ -72,7 +72,7 @@ open-spec =
     enum-known-r
     returns
     enum-told
-    check-givens-requires
+    check-read-requires
     enum-known-r-2
     returns-2
     enum-told-2

@@ -60,7 +60,11 @@ enum-told-5 : tie.Need-enum-told-5
 enum-told-5 c = search needs
 
 after-none-requires : tie.Need-after-none-requires
-after-none-requires c κs = fits-size _ (fits (c .before .before .before .before .before))
+after-none-requires c κs =
+    let d = c .before .before .before in
+    let f = fits (d .before .before) in
+    let z = fits-size _ f in
+    (z .0, z .1, fits-choosing _ f (d .stage2 .given .1) .from)
 
 enum-told-6 : tie.Need-enum-told-6
 enum-told-6 c = search needs

@@ -11,9 +11,10 @@ use Rattle.board.specs.Answers.{checkSays}
 use Rattle.board.specs.Boards.{Sized}
 use Rattle.board.proofs.Answers.{let-through}
 use Rattle.rule.proofs.Rules.{grid-allowed}
-use Rattle.job.specs.Jobs.{ruleOf, unitsFit, checkpointFits}
-use Rattle.job.proofs.Fits.{Frame}
-use Rattle.job.proofs.Checkpoints.{frame-fits, frame-misfits, chosen-le, shift-none, shift-some}
+use Rattle.elimination.specs.Shape.{unitsFit, numbersFit}
+use Rattle.job.specs.Jobs.{shapeOf, ruleOf, checkpointFits}
+use Rattle.job.proofs.Fits.{Frame, frame-fits}
+use Rattle.job.proofs.Checkpoints.{frame-misfits, chosen-le, shift-none, shift-some}
 use Rattle.job.proofs.numbers.checkpoint_fits.Statement.{statement}
 use Rattle.job.proofs.numbers.checkpoint_fits.Tie as tie
 
@@ -35,7 +36,7 @@ below-at c = lt-ltb _ _ (shift-none _ _ (c .if2 .left))
 
 units-at :
     (c : tie.Else3) → let t = c .before .before .before .before .before .before .before .before .before .before .args .t in
-    unitsFit (t .width) (t .height) (t .units) (t .mark) ≡ true
+    unitsFit (shapeOf (t .width) (t .height)) (t .units) (t .mark) ≡ true
 units-at c = sym (c .before .units-fit .ensures) ∙ not-false _ (c .if3 .left)
 
 rule-of-requires : tie.Need-rule-of-requires
@@ -48,7 +49,7 @@ enum-told : tie.Need-enum-told
 enum-told c = search needs
 
 returns : tie.Need-returns
-unfolding checkpointFits
+unfolding checkpointFits numbersFit
 returns c = simp (frame-misfits _ _ _ (sym (rw (c .before .before .before .rule-of .ensures) at (c .before .before .check .ensures)) ∙ ap checkSays (c .enum-told .given .1)))
 
 enum-told-2 : tie.Need-enum-told-2
@@ -58,14 +59,14 @@ shr-if1 : tie.Need-shr-if1
 shr-if1 c = omega (arith, size-at (c .before) .narrow)
 
 returns-2 : tie.Need-returns-2
-unfolding checkpointFits
+unfolding checkpointFits numbersFit
 returns-2 c = simp (frame-fits (frame-at (c .before .before)), le-ltb _ _ (shift-some _ _ (c .if1 .taken)))
 
 shr-if2 : tie.Need-shr-if2
 shr-if2 c = omega (arith, size-at (c .before .before .before) .narrow)
 
 returns-3 : tie.Need-returns-3
-unfolding checkpointFits
+unfolding checkpointFits numbersFit
 returns-3 c =
     let d = c .before .before in
     simp (frame-fits (frame-at (d .before .before)), over-at d, le-ltb _ _ (shift-some _ _ (c .if2 .taken)))
@@ -74,7 +75,7 @@ units-fit-requires : tie.Need-units-fit-requires
 units-fit-requires c κs = let s = size-at (c .before .before .before .before) in (s .narrow, s .low)
 
 returns-4 : tie.Need-returns-4
-unfolding checkpointFits
+unfolding checkpointFits numbersFit
 returns-4 c =
     simp (
       frame-fits (frame-at (c .before .before .before .before .before .before)),
@@ -93,7 +94,7 @@ rows-fit-requires c κs =
     (s .narrow, omega (arith, c .rows-chosen .ensures, chosen-le _ _ _ _ (units-at (c .before))))
 
 returns-5 : tie.Need-returns-5
-unfolding checkpointFits
+unfolding checkpointFits numbersFit
 returns-5 c =
     let d = c .before .before .before .before in
     rw (c .rows-fit .ensures, c .before .rows-chosen .ensures)

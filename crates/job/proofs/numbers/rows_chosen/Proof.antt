@@ -3,7 +3,7 @@
 use native.Mathlib.Omega.{arith}
 use borrow.Author.Needs.{needs}
 use borrow.Author.Tests.{eq-eqb, ne-eqb}
-use Rattle.job.specs.Jobs.{rowsChosen}
+use Rattle.elimination.specs.Shape.{rowsChosen}
 use Rattle.job.proofs.numbers.rows_chosen.Statement.{statement}
 use Rattle.job.proofs.numbers.rows_chosen.Tie as tie
 

@@ -7,7 +7,7 @@ use native.Mathlib.Nat.{mul-le-mul}
 use native.Mathlib.Omega.{arith}
 use borrow.Author.Tests.{lt-ltb, le-ltb, le-leb, lt-leb, eq-eqb, ne-eqb}
 use lib.Dec.{eqb}
-use Rattle.job.specs.Jobs.{rowsFit}
+use Rattle.elimination.specs.Shape.{rowsFit}
 use Rattle.job.proofs.numbers.rows_fit.Statement.{statement}
 use Rattle.job.proofs.numbers.rows_fit.Tie as tie
 

@@ -1,6 +1,8 @@
 -- `job::numbers::stage_fits` meets its contract, by the stage.
 -- Assumes nothing.
+use mathlib.Core.Path.{sym}
 use borrow.Author.Needs.{needs}
+use Rattle.job.proofs.Shapes.{fills-is, chooses-is}
 use Rattle.job.proofs.numbers.stage_fits.Statement.{statement}
 use Rattle.job.proofs.numbers.stage_fits.Tie as tie
 
@@ -20,10 +22,10 @@ enum-told-4 : tie.Need-enum-told-4
 enum-told-4 c = search needs
 
 returns : tie.Need-returns
-returns c = rw (c .before .before .table-size .ensures .0, c .enum-told .given .1)
+returns c = rw (c .before .before .table-size .ensures .0, c .enum-told .given .1) (sym (fills-is _ _ _))
 
 returns-2 : tie.Need-returns-2
-returns-2 c = rw (c .before .before .table-size .ensures .0, c .enum-told2 .given .1)
+returns-2 c = rw (c .before .before .table-size .ensures .0, c .enum-told2 .given .1) (chooses-is _ _ _)
 
 returns-3 : tie.Need-returns-3
 returns-3 c = search needs

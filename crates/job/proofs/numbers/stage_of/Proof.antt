@@ -1,8 +1,9 @@
 -- `job::numbers::stage_of` meets its contract, by the mark and then the units.
 -- Assumes nothing.
 use borrow.Author.Needs.{needs}
-use borrow.Author.Tests.{lt-ltb, le-ltb, ne-eqb}
+use borrow.Author.Tests.{ne-eqb}
 use Rattle.job.specs.Jobs.{stageOf}
+use Rattle.job.proofs.Shapes.{fills-at, chooses-at}
 use Rattle.job.proofs.numbers.stage_of.Statement.{statement}
 use Rattle.job.proofs.numbers.stage_of.Tie as tie
 
@@ -23,7 +24,7 @@ returns-3 c =
     simp (
       ne-eqb _ 1 (c .before .before .before .match .rest .0 .1),
       ne-eqb _ 2 (c .before .before .before .match .rest .1),
-      lt-ltb _ _ (rw (c .before .before .table-size .ensures .0) at (c .if1 .taken)),
+      fills-at _ _ _ (rw (c .before .before .table-size .ensures .0) at (c .if1 .taken)),
     )
 
 returns-4 : tie.Need-returns-4
@@ -32,7 +33,7 @@ returns-4 c =
     simp (
       ne-eqb _ 1 (c .before .before .before .match .rest .0 .1),
       ne-eqb _ 2 (c .before .before .before .match .rest .1),
-      le-ltb _ _ (rw (c .before .before .table-size .ensures .0) at (c .if1 .left)),
+      chooses-at _ _ _ (rw (c .before .before .table-size .ensures .0) at (c .if1 .left)),
     )
 
 pub stage-of-spec : {M : Type 1} → statement M

@@ -2,7 +2,8 @@
 -- Assumes nothing.
 use borrow.Author.Needs.{needs}
 use borrow.Author.Tests.{ne-eqb}
-use Rattle.job.specs.Jobs.{unitsFit}
+use Rattle.elimination.specs.Shape.{unitsFit}
+use Rattle.job.proofs.Shapes.{board-long, none-long}
 use Rattle.job.proofs.numbers.units_fit.Statement.{statement}
 use Rattle.job.proofs.numbers.units_fit.Tie as tie
 
@@ -20,15 +21,15 @@ add-result-3 c = search needs
 
 returns : tie.Need-returns
 unfolding unitsFit
-returns c = rw (c .before .table-size .ensures .0) (simp (c .match .keys1))
+returns c = rw (c .before .table-size .ensures .0, ← board-long) (simp (c .match .keys1))
 
 returns-2 : tie.Need-returns-2
 unfolding unitsFit
-returns-2 c = rw (c .before .table-size .ensures .0) (simp (c .match .keys2))
+returns-2 c = rw (c .before .table-size .ensures .0, ← board-long) (simp (c .match .keys2))
 
 returns-3 : tie.Need-returns-3
 unfolding unitsFit
-returns-3 c = rw (c .before .table-size .ensures .0) (simp (c .match .keys3))
+returns-3 c = rw (c .before .table-size .ensures .0, ← none-long) (simp (c .match .keys3))
 
 returns-4 : tie.Need-returns-4
 unfolding unitsFit

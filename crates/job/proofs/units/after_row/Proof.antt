@@ -1,6 +1,7 @@
 -- `job::units::after_row` meets its contract, by its tests.
 -- Assumes nothing.
 use mathlib.Core.Logic.{⊎-elim}
+use Prim.Native.Nat.{_+_}
 use native.Mathlib.Omega.{arith}
 use borrow.Author.Needs.{needs}
 use borrow.Author.Tests.{lt-ltb, le-ltb, le-leb, lt-leb}
@@ -37,11 +38,13 @@ returns-3 : tie.Need-returns-3
 returns-3 c =
     let d = c .before .before .before in
     let e = d .before .before in
+    let s = e .before .before in
+    let j = s .args .job in
     rw (
       lt-ltb _ _ (shift-none _ _ (e .before .if1 .left)),
       le-leb _ _ (e .if2 .left),
       rw (d .table-size .ensures .0) at
-          (⊎-elim (λ x. chosen-on _ _ _ _ _ (x .0 .taken) _ (x .1)) (λ x. chosen-over _ _ _ _ _ (x .0 .left) _ (x .1)) (c .before .if3 .came)),
+          (⊎-elim (λ x. chosen-on (j .width) _ (j .units + 1) _ _ _ _ (omega (arith, s .pre .1 .0)) (x .0 .taken) _ (x .1)) (λ x. chosen-over _ _ _ _ _ _ _ (x .0 .left) _ (x .1)) (c .before .if3 .came)),
     )
 
 pub after-row-spec : {M : Type 1} → statement M

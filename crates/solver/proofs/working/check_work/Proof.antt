@@ -9,10 +9,9 @@ use borrow.Author.Tests.{le-leb, lt-leb, not-true, not-false}
 use lib.Dec.{eqb}
 use lib.ListN.{length}
 use Rattle.board.specs.Answers.{passed}
-use Rattle.board.specs.Checks.{givensCheck}
 use Rattle.board.proofs.Answers.{turned-away, let-through}
 use Rattle.board.proofs.Powers.{shift-short, shift-long}
-use Rattle.job.specs.Jobs.{jobFits, pausedSays}
+use Rattle.job.specs.Jobs.{jobFits, readCheck, pausedSays}
 use Rattle.job.proofs.Fits.{fits-at, paused-numbers}
 use Rattle.service.specs.Service.{workCheck}
 use Rattle.solver.specs.Working.{lentCheck}
@@ -26,8 +25,8 @@ job-at c = paused-numbers _ _ (sym (c .before .before .pause .ensures .says) ∙
 
 marks-at :
     (c : tie.After-enum-told2) → let a = c .before .before .before .before .before .before .before .before .before .args in
-    givensCheck (a .job .width) (a .job .height) (a .givens .now) ≡ passed
-marks-at c = let-through (c .before .before .check-givens .ensures) (c .enum-told2 .given .1)
+    readCheck (a .job .width) (a .job .height) (a .givens .now) ≡ passed
+marks-at c = let-through (c .before .before .check-read .ensures) (c .enum-told2 .given .1)
 
 board-at :
     (c : tie.Else1) → let a = c .before .before .before .before .before .before .before .before .before .before .before .args in
@@ -46,8 +45,8 @@ returns c = pause-refused _ _ _ _ (sym (ap pausedSays (c .before .r .given .1)) 
 enum-told : tie.Need-enum-told
 enum-told c = search needs
 
-check-givens-requires : tie.Need-check-givens-requires
-check-givens-requires c κs = search needs
+check-read-requires : tie.Need-check-read-requires
+check-read-requires c κs = search needs
 
 enum-known-r-2 : tie.Need-enum-known-r-2
 enum-known-r-2 c = search needs
@@ -56,7 +55,7 @@ returns-2 : tie.Need-returns-2
 unfolding workCheck lentCheck
 returns-2 c =
     let d = c .before .before .before in
-    rw (job-at (d .before)) (turned-away (d .check-givens .ensures) (c .before .r2 .given .1) _)
+    rw (job-at (d .before)) (turned-away (d .check-read .ensures) (c .before .r2 .given .1) _)
 
 enum-told-2 : tie.Need-enum-told-2
 enum-told-2 c = search needs
@@ -106,7 +105,7 @@ check-work-spec =
     enum-known-r
     returns
     enum-told
-    check-givens-requires
+    check-read-requires
     enum-known-r-2
     returns-2
     enum-told-2
