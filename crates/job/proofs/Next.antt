@@ -1,19 +1,21 @@
 -- The job after a unit, where the unit can have done this.
 -- Assumes nothing.
-use mathlib.Core.Path.{_≡_, refl, _∙_}
-use mathlib.Core.Bool.{true, false}
+use mathlib.Core.Path.{_≡_, refl, sym, _∙_}
+use mathlib.Core.Bool.{true, false, true≢false}
 use Prim.Native.Nat.{ℕ, _+_, _-_, _^_, _≤_, _<_}
 use native.Mathlib.Nat.{mul-le-mul}
 use native.Mathlib.Omega.{arith}
-use borrow.Author.Tests.{lt-ltb, le-ltb, le-leb, eq-eqb, ne-eqb}
+use borrow.Author.Tests.{lt-ltb, le-ltb, le-leb, eq-eqb, ne-eqb, not-true}
 use lib.Dec.{eqb}
 use Rattle.board.specs.Checks.{tableSize}
-use Rattle.job.specs.Jobs.{shapeOf, jobFits, chosenTo, afterEntry, afterRow, afterNone, doneIn, nextJob}
+use Rattle.job.specs.Jobs.{shapeOf, aboveOf, lastOf, liveOf, markOf, numbersOf, stageFits, jobFits, chosenTo, afterEntry, afterRow, afterNone, doneIn, nextJob}
 use Rattle.job.specs.declared.Stage.{Stage}
 use Rattle.job.specs.declared.Job.{Job}
 use Rattle.job.specs.declared.Done.{Done}
-use Rattle.job.proofs.Shapes.{chooses-at}
-use Rattle.job.proofs.Fits.{Early, Choosing, fits-at}
+use Rattle.elimination.specs.Task.{isFill}
+use Rattle.elimination.proofs.Shape.{Units, runs, ends, fails}
+use Rattle.job.proofs.Shapes.{board-long, chooses-at}
+use Rattle.job.proofs.Fits.{Early, Choosing, numbers-at, fits-numbers, fits-stage, fits-at}
 
 -- ---- the stage after a row, as the code makes it
 pub chosen-on : (w h u r last c n : ℕ) → tableSize w h ≤ u → r + 1 < h → (s : Stage) → s ≡ Stage.Choosing last c n → s ≡ chosenTo (shapeOf w h) u (r + 1) last c n
@@ -33,6 +35,35 @@ some-beyond u n l f = ne-eqb (u - n) 0 (λ e. f (omega arith))
 module _ (j : Job) (f : jobFits j ≡ true) where
   pub fits-size : (j .width ≤ 10) × (j .height ≤ 60)
   fits-size = let z = fits-at j f .frame .size in (z .narrow, z .low)
+
+  pub fits-running : markOf (j .stage) ≡ 0 → j .units < tableSize (j .width) (j .height) + j .height
+  fits-running m = go (markOf (j .stage)) (numbers-at (numbersOf j) (fits-numbers j f) .are .units) m
+    where
+      go : (k : ℕ) → Units (shapeOf (j .width) (j .height)) (j .units) k → k ≡ 0 → j .units < tableSize (j .width) (j .height) + j .height
+      go k (runs l) z = omega (arith, board-long (j .width) (j .height))
+      go k (ends q) z = absurd (omega arith)
+      go k (fails q) z = absurd (omega arith)
+
+  -- while it runs, its stage is the task of its next unit
+  pub fills-stage : markOf (j .stage) ≡ 0 → isFill (shapeOf (j .width) (j .height) .plan (j .units)) ≡ true
+      → j .stage ≡ Stage.Filling (aboveOf (j .stage)) (lastOf (j .stage)) (liveOf (j .stage))
+  fills-stage m e = go (j .stage) m (fits-stage j f)
+    where
+      go : (s : Stage) → markOf s ≡ 0 → stageFits (shapeOf (j .width) (j .height)) (j .units) s ≡ true → s ≡ Stage.Filling (aboveOf s) (lastOf s) (liveOf s)
+      go (Stage.Filling above last live) z q = refl
+      go (Stage.Choosing above last live) z q = absurd (true≢false (sym e ∙ not-true (isFill (shapeOf (j .width) (j .height) .plan (j .units))) q))
+      go (Stage.Finished above last score) z q = absurd (omega arith)
+      go Stage.Infeasible z q = absurd (omega arith)
+
+  pub chooses-stage : markOf (j .stage) ≡ 0 → isFill (shapeOf (j .width) (j .height) .plan (j .units)) ≡ false
+      → j .stage ≡ Stage.Choosing (aboveOf (j .stage)) (lastOf (j .stage)) (liveOf (j .stage))
+  chooses-stage m e = go (j .stage) m (fits-stage j f)
+    where
+      go : (s : Stage) → markOf s ≡ 0 → stageFits (shapeOf (j .width) (j .height)) (j .units) s ≡ true → s ≡ Stage.Choosing (aboveOf s) (lastOf s) (liveOf s)
+      go (Stage.Filling above last live) z q = absurd (true≢false (sym q ∙ e))
+      go (Stage.Choosing above last live) z q = refl
+      go (Stage.Finished above last score) z q = absurd (omega arith)
+      go Stage.Infeasible z q = absurd (omega arith)
 
   pub fits-filling : {above last live : ℕ} → j .stage ≡ Stage.Filling above last live → Early (j .width) (j .height) (j .units) above last live
   fits-filling e = rw e at (fits-at j f .stage)

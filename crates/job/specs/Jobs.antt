@@ -9,6 +9,7 @@ use Rattle.board.specs.Answers.{Answer, gives, refusalSays, _then_, refuseUnles
 use Rattle.board.specs.Boards.{among}
 use Rattle.board.specs.Checks.{givensCheck, tableSize}
 use Rattle.elimination.specs.Task.{isFill}
+use Rattle.elimination.specs.Task as Elimination
 use Rattle.elimination.specs.FillThenChoose.{plan}
 use Rattle.elimination.specs.Shape.{Shape, Numbers, numbersFit}
 use Rattle.rule.specs.Rule.{ruleFits, gridCheck}
@@ -20,6 +21,7 @@ use Rattle.job.specs.declared.Opened.{Opened}
 use Rattle.job.specs.declared.Paused.{Paused}
 use Rattle.job.specs.declared.Resumed.{Resumed}
 use Rattle.job.specs.declared.Done.{Done}
+use Rattle.job.specs.declared.Task as Task
 
 -- ---- lengths
 -- a job's length where a still board that keeps the givens exists, and where none does
@@ -149,6 +151,11 @@ pauseRule j = refuseUnless (jobFits j) 7 then gives (jobSays j)
 -- resuming: 7
 unfoldable pub resumeRule : Checkpoint → Answer
 resumeRule t = refuseUnless (checkpointFits t) 7 then gives (checkpointSays t)
+
+-- ---- a unit's task, as row elimination's
+abbrev pub taskOf : Task.Task → Elimination.Task
+taskOf (Task.Task.Fill after source target entry) = Elimination.fill after source target entry
+taskOf (Task.Task.Choose above source) = Elimination.row above source
 
 -- ---- the job after a unit
 -- the stage after u units once k rows are chosen, the last two of them `above` and `last`, worth n

@@ -9,8 +9,8 @@ mod units;
 
 ghost use mathlib.Core.Path.{_≡_};
 ghost use Rattle.board.specs.Answers.{checkSays};
-ghost use Rattle.job.specs.Jobs.{readCheck, nextJob};
-ghost use Rattle.job.specs.Calls.{Opens, Pauses, Resumes};
+ghost use Rattle.job.specs.Jobs.{readCheck, numbersOf, nextJob};
+ghost use Rattle.job.specs.Calls.{Opens, Pauses, Resumes, Does};
 
 // What a job does next, with that stage's numbers: the last two rows chosen, and the live cells so far that were free.
 pub enum Stage {
@@ -68,6 +68,22 @@ pub enum Paused {
 pub enum Resumed {
     Ready(Job),
     Refused(Refusal),
+}
+
+// What a unit of a job is to do.
+pub enum Task {
+    // Fill an entry of the layer that starts at `target` and has `after` rows after it, by the layer that starts at `source`.
+    Fill {
+        after: usize,
+        source: usize,
+        target: usize,
+        entry: usize,
+    },
+    // Choose the row that has `row` rows above it, by its layer, which starts at `source`.
+    Choose {
+        row: usize,
+        source: usize,
+    },
 }
 
 // What a unit of a job has done.
@@ -138,6 +154,36 @@ impl Job {
             return Paused::Refused(Refusal::Checkpoint);
         }
         Paused::Numbers(numbers::numbers_of(self))
+    }
+
+    // The nine numbers of this job, whether they fit or not.
+    pub fn numbers(self) -> Checkpoint
+        ensures { λ r. ⌜ r ≡ numbersOf self ⌝ }
+    {
+        numbers::numbers_of(self)
+    }
+
+    // What the next unit is to do. Of a job that has ended or doesn't fit, the answer means nothing.
+    pub fn task(self) -> Task
+        ensures { λ r. ⌜ Does self r ⌝ }
+    {
+        let w = self.width;
+        let h = self.height;
+        let units = self.units;
+        if 10 < w {
+            return Task::Choose { row: 0, source: 0 };
+        }
+        if 60 < h {
+            return Task::Choose { row: 0, source: 0 };
+        }
+        let entries = numbers::table_size(w, h);
+        if units < entries {
+            return units::fill_task(w, h, units);
+        }
+        if h <= units - entries {
+            return Task::Choose { row: 0, source: 0 };
+        }
+        units::row_task(w, h, units)
     }
 
     // The job after its unit. A job that doesn't fit, or whose unit can't have done this, is handed back as it is.

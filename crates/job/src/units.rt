@@ -1,11 +1,40 @@
-// The job after a unit, by what the unit has done.
+// What a unit is to do, and the job after it, by what it has done.
 use crate::Job;
 use crate::Stage;
+use crate::Task;
 use crate::numbers;
 ghost use mathlib.Core.Path.{_≡_};
 ghost use Prim.Native.Nat.{_+_, _≤_, _<_};
 ghost use Rattle.board.specs.Checks.{tableSize};
-ghost use Rattle.job.specs.Jobs.{afterEntry, rowDone, noneDone};
+ghost use Rattle.job.specs.Jobs.{shapeOf, taskOf, afterEntry, rowDone, noneDone};
+
+// The task of a unit that fills.
+pub fn fill_task(w: usize, h: usize, units: usize) -> Task
+    requires { ⌜ (w ≤ 10) × (h ≤ 60) × (units < tableSize w h) ⌝ }
+    ensures { λ r. ⌜ taskOf r ≡ shapeOf w h .plan units ⌝ }
+{
+    let q = numbers::table_size(w, 1);
+    let after = units / q;
+    let source = (h - after) * q;
+    let target = (h - 1 - after) * q;
+    let entry = units % q;
+    Task::Fill {
+        after,
+        source,
+        target,
+        entry,
+    }
+}
+
+// The task of a unit that chooses.
+pub fn row_task(w: usize, h: usize, units: usize) -> Task
+    requires { ⌜ (w ≤ 10) × (h ≤ 60) × (tableSize w h ≤ units) × (units < tableSize w h + h) ⌝ }
+    ensures { λ r. ⌜ taskOf r ≡ shapeOf w h .plan units ⌝ }
+{
+    let row = units - numbers::table_size(w, h);
+    let source = row * numbers::table_size(w, 1);
+    Task::Choose { row, source }
+}
 
 // After an entry.
 pub fn after_entry(job: Job, above: usize, last: usize, live: usize) -> Job

@@ -1,4 +1,4 @@
--- What the best row and the last layer come to: the rule's entry and the rule's choice, with q for 4^w and n for 2^w.
+-- What the best row and the last layer come to: the rule's entry and the rule's choice.
 -- Assumes nothing.
 use mathlib.Core.Path.{_≡_, refl, _∙_, sym, ap, fun-ext}
 use mathlib.Core.Bool.{Bool, true, false, cond, _&&_}
@@ -7,18 +7,18 @@ use mathlib.Core.Option.{Option}
 use Prim.Native.Nat.{ℕ, zero, suc, _+_, _*_, _-_, _/_, _%_, _^_, _<_, _≤_}
 use native.Mathlib.Nat.{mul-le-mul-right, div-lt-iff-lt-mul, mod-lt}
 use native.Mathlib.Omega.{arith}
+use lib.ListN.{getD}
 use lib.Pow.{pow-pos}
 use Rattle.elimination.specs.Candidates.{scan}
 use Rattle.elimination.specs.Kind.{offerIf, choose, entry, worthOf}
+use Rattle.elimination.specs.Table.{reads}
 use Rattle.elimination.proofs.Kind.{entry-last, entry-more}
 use Rattle.life.specs.Rows.{agree}
 use Rattle.score_table.specs.Rows.{rowKept}
-use Rattle.score_table.specs.ScoreTable.{kindBy, kindOf, placeOf, readsFrom, readsOf, unitPlace, unitEntry, rowChoice}
-use Rattle.board.specs.Checks.{tableSize}
-use Rattle.score_table.specs.Inner.{choiceOf, Found}
+use Rattle.score_table.specs.ScoreTable.{kindBy, kindOf, readsFrom}
+use Rattle.score_table.specs.Inner.{choiceOf, Found, entryOver}
 use Rattle.score_table.specs.declared.best.Best.{Best}
-use Rattle.board.proofs.Powers.{four-two, four-pos}
-use Rattle.score_table.proofs.Places.{unit-place, unit-place-lt}
+use Rattle.board.proofs.Powers.{four-two}
 
 -- ---- a row's givens and its layer
 -- the choice goes by the place of the givens alone
@@ -37,97 +37,72 @@ choose-at : (next : ℕ → ℕ) (w h : ℕ) (givens : List ℕ) (k a b : ℕ) (
     → choose (kindOf next w h givens) k a b read ≡ choose (kindBy next w (λ i. at) givens) 0 a b read
 choose-at next w h givens k a b read e = choose-here next w h givens k a b read ∙ ap (λ (x : ℕ). choose (kindBy next w (λ i. x) givens) 0 a b read) e
 
--- layer r + 1 starts at r × 4^w
-reads-same : (w : ℕ) (table : List ℕ) (i r b first : ℕ) → i ≡ r + 1 → first ≡ r * 4 ^ w + b * 2 ^ w → readsOf w table i b ≡ readsFrom table first
-unfolding placeOf
-reads-same w table i r b first e f =
-    let d : i - 1 ≡ r = omega arith in
-    fun-ext λ c. rw (d, f)
+-- the numbers read for the rows below b are those from the place of its part of the layer on
+reads-from : (next : ℕ → ℕ) (w h : ℕ) (givens table : List ℕ) (source b first : ℕ) → first ≡ source + b * 2 ^ w
+    → reads (kindOf next w h givens) table source b ≡ readsFrom table first
+unfolding reads
+reads-from next w h givens table source b first e = fun-ext λ c. ap (λ (p : ℕ). getD table p 0) (omega arith)
 
-module _ (next : ℕ → ℕ) (w h : ℕ) (givens table : List ℕ) (r a b first : ℕ) (inside : r < h)
-    (start : first ≡ r * 4 ^ w + b * 2 ^ w) (o : Best)
+module _ (next : ℕ → ℕ) (w h : ℕ) (givens table : List ℕ) (r source a b first : ℕ) (start : first ≡ source + b * 2 ^ w) (o : Best)
     (F : Found w o (choose (kindBy next w (λ i. r * w) givens) 0 a b (readsFrom table first))) where
   -- what the search found is the choice with k rows after it
-  found-choice : (k i : ℕ) → h - suc k ≡ r → i ≡ r + 1 → choiceOf o ≡ choose (kindOf next w h givens) k a b (readsOf w table i b)
-  found-choice k i e f =
-      F .is ∙ rw (reads-same w table i r b first f start) (sym (choose-at next w h givens k a b (readsFrom table first) (ap (λ (n : ℕ). n * w) e)))
+  found-choice : (k : ℕ) → h - suc k ≡ r → choiceOf o ≡ choose (kindOf next w h givens) k a b (reads (kindOf next w h givens) table source b)
+  found-choice k e =
+      F .is
+      ∙ rw (reads-from next w h givens table source b first start) (sym (choose-at next w h givens k a b (readsFrom table first) (ap (λ (n : ℕ). n * w) e)))
 
   -- choosing a row
-  pub found-row-choice : choiceOf o ≡ rowChoice next w h givens table r a b
-  unfolding rowChoice
-  found-row-choice = found-choice (h - suc r) (r + 1) (omega arith) refl
+  pub found-row : r < h → choiceOf o ≡ choose (kindOf next w h givens) (h - suc r) a b (reads (kindOf next w h givens) table source b)
+  found-row inside = found-choice (h - suc r) (omega arith)
 
   -- an entry of a layer above the last
-  pub found-entry : (k i : ℕ) → (k ≡ 0 → ⊥) → h - k ≡ r → i ≡ r + 1
-      → worthOf 65535 (choiceOf o) ≡ entry (kindOf next w h givens) k a b (readsOf w table i b)
-  found-entry zero i z e f = absurd (z refl)
-  found-entry (suc k) i z e f = ap (worthOf 65535) (found-choice k i e f) ∙ sym (entry-more (kindOf next w h givens) k a b (readsOf w table i b))
+  pub found-entry : (k : ℕ) → (k ≡ 0 → ⊥) → h - k ≡ r
+      → worthOf 65535 (choiceOf o) ≡ entry (kindOf next w h givens) k a b (reads (kindOf next w h givens) table source b)
+  found-entry zero z e = absurd (z refl)
+  found-entry (suc k) z e =
+      ap (worthOf 65535) (found-choice k e) ∙ sym (entry-more (kindOf next w h givens) k a b (reads (kindOf next w h givens) table source b))
 
 -- ---- room
 -- the w cells of a row, and the 2^w entries of a row of a layer
 pub row-room : (w h r : ℕ) → r < h → r * w + w ≤ w * h
 row-room w h r l = omega (arith, mul-le-mul-right w l)
 
-pub layer-room : (w h r b q n : ℕ) → q ≡ 4 ^ w → n ≡ 2 ^ w → r < h → b < 2 ^ w → r * q + b * n + 2 ^ w ≤ tableSize w h
-unfolding tableSize
-layer-room w h r b q n eq en l m =
+pub layer-room : (w source b n m : ℕ) → n ≡ 2 ^ w → b < 2 ^ w → source + 4 ^ w ≤ m → source + b * n + 2 ^ w ≤ m
+layer-room w source b n m en l f =
     let x : (b + 1) * 2 ^ w ≤ 2 ^ w * 2 ^ w = mul-le-mul-right (2 ^ w) (omega arith) in
-    let y : (r + 1) * 4 ^ w ≤ h * 4 ^ w = mul-le-mul-right (4 ^ w) (omega arith) in
-    rw (eq, en) (omega (arith, four-two w))
+    rw en (omega (arith, four-two w))
 
--- ---- unit u of filling
--- its rows a and b
-module _ (w u q n : ℕ) (eq : q ≡ 4 ^ w) (en : n ≡ 2 ^ w) where
-  pub row-a-lt : u % q / n < 2 ^ w
-  row-a-lt =
-      let l : u % 4 ^ w < 2 ^ w * 2 ^ w = rw (← (four-two w)) (mod-lt u (four-pos w)) in
-      rw (eq, en) (div-lt-iff-lt-mul (pow-pos w) .1 l)
+-- ---- entry j of a layer: its rows a and b, and its number
+module _ (w j n : ℕ) (en : n ≡ 2 ^ w) where
+  pub row-a-lt : j < 4 ^ w → j / n < 2 ^ w
+  row-a-lt l = rw en (div-lt-iff-lt-mul (pow-pos w) .1 (rw (four-two w) at l))
 
-  pub row-b-lt : u % q % n < 2 ^ w
-  row-b-lt = rw en (mod-lt (u % q) (pow-pos w))
+  pub row-b-lt : j % n < 2 ^ w
+  row-b-lt = rw en (mod-lt j (pow-pos w))
 
--- its place and its number
-module _ (w h u q n : ℕ) (eq : q ≡ 4 ^ w) (en : n ≡ 2 ^ w) where
-  module _ (early : u < tableSize w h) where
-    pub after-lt : u / q < h
-    unfolding tableSize
-    after-lt = rw eq (div-lt-iff-lt-mul (four-pos w) .1 early)
-
-    pub place-below : (h - 1 - u / q) * q + u % q < tableSize w h
-    place-below = rw eq (rw (unit-place w h u) at (unit-place-lt w h u early))
-
-  pub place-is : (h - 1 - u / q) * q + u % q ≡ unitPlace w h u
-  place-is = rw eq (sym (unit-place w h u))
-
-  module _ (next : ℕ → ℕ) (givens table : List ℕ) where
-    -- layer h
+  module _ (next : ℕ → ℕ) (h k source : ℕ) (givens table : List ℕ) where
+    -- the last layer
     abbrev last : ℕ → ℕ → Bool
     last a b = agree next w a b 0
 
-    entry-at-last : u / q ≡ 0 → (s t : Bool) → last (u % q / n) (u % q % n) ≡ s → last (u % q % n) 0 ≡ t
-        → unitEntry next w h givens table u ≡ cond (s && t) 0 65535
-    unfolding unitEntry
-    entry-at-last k s t e f =
-        let p : agree next w (u % 4 ^ w / 2 ^ w) (u % 4 ^ w % 2 ^ w) 0 ≡ s = rw (eq, en) at e in
-        let r : agree next w (u % 4 ^ w % 2 ^ w) 0 0 ≡ t = rw (eq, en) at f in
-        rw (rw eq at k) (entry-last (kindOf next w h givens) _ _ _ ∙ rw (p, r))
+    entry-at-last : k ≡ 0 → (s t : Bool) → last (j / n) (j % n) ≡ s → last (j % n) 0 ≡ t → entryOver next w h k source j givens table ≡ cond (s && t) 0 65535
+    entry-at-last z s t e f =
+        let p : agree next w (j / 2 ^ w) (j % 2 ^ w) 0 ≡ s = rw en at e in
+        let r : agree next w (j % 2 ^ w) 0 0 ≡ t = rw en at f in
+        rw z (entry-last (kindOf next w h givens) _ _ _ ∙ rw (p, r))
 
-    pub entry-apart : u / q ≡ 0 → last (u % q / n) (u % q % n) ≡ false → 65535 ≡ unitEntry next w h givens table u
-    entry-apart k e = sym (entry-at-last k false (last (u % q % n) 0) e refl)
+    pub entry-apart : k ≡ 0 → last (j / n) (j % n) ≡ false → 65535 ≡ entryOver next w h k source j givens table
+    entry-apart z e = sym (entry-at-last z false (last (j % n) 0) e refl)
 
-    pub entry-open : u / q ≡ 0 → last (u % q / n) (u % q % n) ≡ true → last (u % q % n) 0 ≡ false → 65535 ≡ unitEntry next w h givens table u
-    entry-open k e f = sym (entry-at-last k true false e f)
+    pub entry-open : k ≡ 0 → last (j / n) (j % n) ≡ true → last (j % n) 0 ≡ false → 65535 ≡ entryOver next w h k source j givens table
+    entry-open z e f = sym (entry-at-last z true false e f)
 
-    pub entry-ends : u / q ≡ 0 → last (u % q / n) (u % q % n) ≡ true → last (u % q % n) 0 ≡ true → 0 ≡ unitEntry next w h givens table u
-    entry-ends k e f = sym (entry-at-last k true true e f)
+    pub entry-ends : k ≡ 0 → last (j / n) (j % n) ≡ true → last (j % n) 0 ≡ true → 0 ≡ entryOver next w h k source j givens table
+    entry-ends z e f = sym (entry-at-last z true true e f)
 
     -- a layer above
-    pub entry-best : (early : u < tableSize w h) → (u / q ≡ 0 → ⊥) → (o : Best)
-        → Found w o (choose (kindBy next w (λ i. (h - u / q) * w) givens) 0 (u % q / n) (u % q % n) (readsFrom table ((h - u / q) * q + u % q % n * n)))
-        → worthOf 65535 (choiceOf o) ≡ unitEntry next w h givens table u
-    unfolding unitEntry
-    entry-best early z o F =
-        let l = after-lt early in
-        rw (eq, en) at
-        (found-entry next w h givens table (h - u / q) (u % q / n) (u % q % n) ((h - u / q) * q + u % q % n * n) (omega arith) (rw (eq, en)) o F (u / q) (h - u / q + 1) z refl
-        refl)
+    pub entry-best : (k ≡ 0 → ⊥) → (o : Best)
+        → Found w o (choose (kindBy next w (λ i. (h - k) * w) givens) 0 (j / n) (j % n) (readsFrom table (source + j % n * n)))
+        → worthOf 65535 (choiceOf o) ≡ entryOver next w h k source j givens table
+    entry-best z o F =
+        rw en at (found-entry next w h givens table (h - k) source (j / n) (j % n) (source + j % n * n) (rw en) o F k z refl)

@@ -1,13 +1,18 @@
 -- The places of a grid's table are row elimination's.
 -- Assumes nothing.
-use mathlib.Core.Path.{_≡_, sym, _∙_}
+use mathlib.Core.Path.{_≡_, refl, sym, _∙_, subst}
+use mathlib.Core.Bool.{Bool, true, false, cond}
 use Prim.Native.Nat.{ℕ, _+_, _*_, _-_, _/_, _%_, _^_, _<_}
 use native.Mathlib.Nat.{div-add-mod'}
 use native.Mathlib.Omega.{arith}
+use lib.Dec.{ltb}
 use Rattle.elimination.specs.Filling as Filling
 use Rattle.elimination.proofs.Filling.{place-digits, place-lt}
 use Rattle.board.specs.Checks.{tableSize}
-use Rattle.score_table.specs.ScoreTable.{placeOf, unitPlace}
+use Rattle.elimination.specs.Task.{Task, fill, row}
+use Rattle.elimination.specs.Filling.{fillAt}
+use Rattle.elimination.specs.FillThenChoose.{plan}
+use Rattle.score_table.specs.ScoreTable.{placeOf, unitPlace, InPlace, PlacesRight}
 use Rattle.board.proofs.Powers.{four-two, table-four}
 
 -- the place that a unit writes, by its layer and its place there
@@ -24,3 +29,24 @@ place-same w h u = unit-place w h u ∙ rw (four-two w) (sym (place-digits h (2 
 
 pub unit-place-lt : (w h u : ℕ) → u < tableSize w h → unitPlace w h u < tableSize w h
 unit-place-lt w h u l = rw (place-same w h u, table-four w h) (place-lt h (2 ^ w * 2 ^ w) u (rw (table-four w h) at l))
+
+-- ---- the tasks of a grid's plan lie where document 01 has the entries
+pub places-right : PlacesRight
+unfolding plan placeOf
+places-right w h u = go (ltb u (h * q))
+  where
+    q : ℕ
+    q = 2 ^ w * 2 ^ w
+
+    four : 4 ^ w ≡ 2 ^ w * 2 ^ w
+    four = four-two w
+
+    go : (b : Bool) → InPlace w h (cond b (fillAt h (2 ^ w * 2 ^ w) u) (row (u - h * (2 ^ w * 2 ^ w)) ((u - h * (2 ^ w * 2 ^ w)) * (2 ^ w * 2 ^ w))))
+    go true =
+        let k = u / (2 ^ w * 2 ^ w) in
+        let j = u % (2 ^ w * 2 ^ w) in
+        let d : j / 2 ^ w * 2 ^ w + j % 2 ^ w ≡ j = div-add-mod' j (2 ^ w) in
+        let e : h - k - 1 ≡ h - 1 - k = omega arith in
+        let f : h - k + 1 - 1 ≡ h - k = omega arith in
+        (rw (four, e) (omega arith), λ b c. rw (four, f) (omega arith))
+    go false = λ b c. let f : u - h * (2 ^ w * 2 ^ w) + 1 - 1 ≡ u - h * (2 ^ w * 2 ^ w) = omega arith in rw (four, f) (omega arith)

@@ -2,10 +2,12 @@
 -- Assumes nothing.
 use mathlib.Core.Path.{_≡_}
 use mathlib.Core.List.{List}
-use Prim.Native.Nat.{ℕ, _+_, _*_, _-_, _/_, _^_, _≤_, _<_}
+use Prim.Native.Nat.{ℕ, _+_, _*_, _-_, _/_, _%_, _^_, _≤_, _<_}
 use lib.ListN.{length}
 use Rattle.elimination.specs.Candidates.{Choice, nothing, chosen}
-use Rattle.board.specs.Checks.{tableSize}
+use Rattle.elimination.specs.Kind.{entry}
+use Rattle.elimination.specs.Table.{reads}
+use Rattle.score_table.specs.ScoreTable.{kindOf}
 use Rattle.score_table.specs.declared.best.Best.{Best}
 use Rattle.score_table.specs.declared.best.Best.the-variants.{Nothing, Row}
 
@@ -28,9 +30,20 @@ pub record Found (w : ℕ) (r : Best) (wanted : Choice ℕ) : Type 0 where
 abbrev pub layerSize : ℕ → ℕ
 layerSize w = 4 ^ w
 
--- a grid's givens and table, lent
-pub record Memory (w h : ℕ) (givens table : List ℕ) : Type 0 where
+-- a grid's givens, lent
+pub record Memory (w h : ℕ) (givens : List ℕ) : Type 0 where
   pub narrow : w ≤ 10
   pub low : h ≤ 60
   pub marks : length givens ≡ w * h
-  pub entries : tableSize w h ≤ length table
+
+-- entry j of a layer with k rows after it, and the layer at `source` that it reads; the last layer reads none
+pub record EntryRead (w h k source j : ℕ) (givens table : List ℕ) : Type 0 where
+  pub memory : Memory w h givens
+  pub after : k < h
+  pub inside : j < 4 ^ w
+  pub layer : (k ≡ 0 → ⊥) → source + 4 ^ w ≤ length table
+
+-- the number that it has to be, over what the table holds
+abbrev pub entryOver : (ℕ → ℕ) → ℕ → ℕ → ℕ → ℕ → ℕ → List ℕ → List ℕ → ℕ
+entryOver next w h k source j givens table =
+    entry (kindOf next w h givens) k (j / 2 ^ w) (j % 2 ^ w) (reads (kindOf next w h givens) table source (j % 2 ^ w))

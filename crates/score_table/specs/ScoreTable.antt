@@ -1,14 +1,16 @@
 -- Document 01, "The score table" and the choice of a row: row elimination over the rows of a grid. The rules of an entry and of a choice over
--- whatever numbers the table holds are `entry` and `choose` of crate `elimination`; here stand what they are asked of, where entries lie, and
--- which of them a unit writes. `next` is the next-state table of the 512 patterns.
+-- whatever numbers the table holds are `entry` and `choose` of crate `elimination`; here stand what they are asked of, and where document 01 has
+-- the entries and which of them a unit writes. `next` is the next-state table of the 512 patterns.
 -- Assumes nothing.
+use mathlib.Core.Path.{_≡_}
 use mathlib.Core.Bool.{Bool, false, _&&_}
 use mathlib.Core.List.{List}
 use Prim.Native.Nat.{ℕ, suc, _+_, _*_, _-_, _/_, _%_, _^_}
 use lib.ListN.{getD}
-use Rattle.elimination.specs.Candidates.{Choice}
-use Rattle.elimination.specs.Kind.{Kind, choose, entry}
+use Rattle.elimination.specs.Kind.{Kind}
 use Rattle.elimination.specs.Sums.{SumRules, sumKind}
+use Rattle.elimination.specs.Task.{Task, fill, row}
+use Rattle.elimination.specs.FillThenChoose.{plan}
 use Rattle.life.specs.Rows.{agree}
 use Rattle.score_table.specs.Rows.{rowWorth, rowKept}
 
@@ -48,7 +50,6 @@ readsFrom table first c = getD table (first + c) 0
 abbrev pub readsOf : ℕ → List ℕ → ℕ → ℕ → ℕ → ℕ
 readsOf w table i b c = getD table (placeOf w i b c) 0
 
--- ---- filling
 -- unit u of filling writes entry (h - rowsAfter, rowA, rowB): layer h first, then upward; in a layer a rises, then b
 abbrev pub rowsAfter : ℕ → ℕ → ℕ
 rowsAfter w u = u / 4 ^ w
@@ -63,12 +64,13 @@ rowB w u = u % 4 ^ w % 2 ^ w
 unfoldable pub unitPlace : ℕ → ℕ → ℕ → ℕ
 unitPlace w h u = placeOf w (h - rowsAfter w u) (rowA w u) (rowB w u)
 
--- the number that it writes: the rule of an entry, over what the table holds in the layer below
-unfoldable pub unitEntry : (ℕ → ℕ) → ℕ → ℕ → List ℕ → List ℕ → ℕ → ℕ
-unitEntry next w h givens table u =
-    entry (kindOf next w h givens) (rowsAfter w u) (rowA w u) (rowB w u) (readsOf w table (h - rowsAfter w u + 1) (rowB w u))
+-- ---- the tasks of a grid's plan
+-- what a task writes and reads lies where document 01 has it: entry (h - k, a, b), by entries (h - k + 1, b, c); and for row r + 1 entries (r + 1, b, c)
+abbrev pub InPlace : ℕ → ℕ → Task → Type 0
+InPlace w h (fill k source target j) =
+    (target + j ≡ placeOf w (h - k) (j / 2 ^ w) (j % 2 ^ w)) × ((b c : ℕ) → source + (b * 2 ^ w + c) ≡ placeOf w (h - k + 1) b c)
+InPlace w h (row r source) = (b c : ℕ) → source + (b * 2 ^ w + c) ≡ placeOf w (r + 1) b c
 
--- ---- choosing
--- the choice of the row with r rows above it, the last two of them `above` and `last`: the rule of a choice over entries (r + 1, last, c)
-unfoldable pub rowChoice : (ℕ → ℕ) → ℕ → ℕ → List ℕ → List ℕ → ℕ → ℕ → ℕ → Choice ℕ
-rowChoice next w h givens table r above last = choose (kindOf next w h givens) (h - suc r) above last (readsOf w table (r + 1) last)
+-- THE PLACES: every task of the plan is in place
+abbrev pub PlacesRight : Type 0
+PlacesRight = (w h u : ℕ) → InPlace w h (plan h (2 ^ w * 2 ^ w) u)

@@ -3,23 +3,24 @@
 use mathlib.Core.Path.{_≡_, _∙_, sym, ap, fun-ext}
 use mathlib.Core.Bool.{Bool}
 use mathlib.Core.List.{List}
-use Prim.Native.Nat.{ℕ, suc, _+_, _*_, _-_, _^_, _<_}
+use Prim.Native.Nat.{ℕ, suc, _+_, _*_, _-_, _^_, _<_, _≤_}
 use native.Mathlib.Omega.{arith}
 use lib.Dec.{eqb}
 use lib.IntN.{pos, predℤ, sucℤ}
-use lib.ListN.{set}
+use borrow.Author.Tests.{le-leb}
+use lib.ListN.{length}
 use Rattle.board.specs.Search.{allBelow}
-use Rattle.elimination.specs.Kind.{Kind, choose, entry}
+use Rattle.elimination.specs.Kind.{Kind, choose}
+use Rattle.elimination.specs.Table.{reads, fillEntry}
 use Rattle.elimination.specs.Sums.{sumKind}
 use Rattle.rule.specs.Rule.{Holds, entryOf}
 use Rattle.life.specs.Plane.{nine}
 use Rattle.life.specs.Rows.{cellOf, becomes, stepsTo, agree}
-use Rattle.score_table.specs.ScoreTable.{rules, kindOf, readsOf, rowsAfter, rowA, rowB, unitPlace, unitEntry, rowChoice}
-use Rattle.board.specs.Checks.{tableSize}
-use Rattle.score_table.specs.Inner.{Memory}
+use Rattle.score_table.specs.ScoreTable.{rules, kindOf}
+use Rattle.score_table.specs.Inner.{Memory, EntryRead}
 use Rattle.score_table.specs.Calls.{fillWrites, rowPicked}
 use Rattle.score_table.proofs.Columns.{cell-small}
-use Rattle.score_table.proofs.Calls.{lent-fits, fill-done, picked-choice}
+use Rattle.score_table.proofs.Calls.{grid-fits, read-fits, fill-done, picked-choice}
 
 -- the pattern around a column is one of 512
 nine-small : (w a b c j : ℕ) → nine (cellOf w a) (cellOf w b) (cellOf w c) (pos j) < 512
@@ -46,17 +47,17 @@ module _ (next : ℕ → ℕ) (table : List ℕ) (H : Holds next table) where
   kind-same : (w h : ℕ) (g : List ℕ) → kindOf (entryOf table) w h g ≡ kindOf next w h g
   kind-same w h g = ap (λ (f : ℕ → ℕ → ℕ → Bool). sumKind (rules f w (λ k. (h - suc k) * w) g)) (fun-ext λ a. fun-ext λ b. fun-ext λ c. agree-same w a b c)
 
-  module _ (w h : ℕ) (g t : List ℕ) (M : Memory w h g t) where
-    -- a unit of filling
-    pub filled : (u : ℕ) → u < tableSize w h → fillWrites (entryOf table) w h u g t ≡ set t (unitPlace w h u) (unitEntry next w h g t u)
-    unfolding unitEntry
-    filled u l =
-        sym (fill-done w h g t (entryOf table) u (lent-fits w h g t M) l)
-        ∙ ap (λ (K : Kind ℕ). set t (unitPlace w h u) (entry K (rowsAfter w u) (rowA w u) (rowB w u) (readsOf w t (h - rowsAfter w u + 1) (rowB w u)))) (kind-same w h g)
+  module _ (w h : ℕ) (g t : List ℕ) where
+    -- the filling of an entry
+    pub filled : (k source target j : ℕ) → EntryRead w h k source j g t → target + 4 ^ w ≤ length t
+        → fillWrites (entryOf table) w h k source target j g t ≡ fillEntry (kindOf next w h g) k source target j t
+    filled k source target j R l =
+        sym (fill-done w h g (entryOf table) k source target j t (read-fits w h g k source target j t R l))
+        ∙ ap (λ (K : Kind ℕ). fillEntry K k source target j t) (kind-same w h g)
 
     -- the choice of a row
-    pub picked : (r a b : ℕ) → r < h → a < 2 ^ w → b < 2 ^ w → rowPicked (entryOf table) w h r a b g t ≡ rowChoice next w h g t r a b
-    unfolding rowChoice
-    picked r a b l m n =
-        picked-choice w h g t (entryOf table) r a b (lent-fits w h g t M) l m n
-        ∙ ap (λ (K : Kind ℕ). choose K (h - suc r) a b (readsOf w t (r + 1) b)) (kind-same w h g)
+    pub picked : Memory w h g → (r source a b : ℕ) → r < h → source + 4 ^ w ≤ length t → a < 2 ^ w → b < 2 ^ w
+        → rowPicked (entryOf table) w h r source a b g t ≡ choose (kindOf next w h g) (h - suc r) a b (reads (kindOf next w h g) t source b)
+    picked M r source a b l f m n =
+        picked-choice w h g (entryOf table) r source a b t (grid-fits w h g M) l (le-leb (source + 4 ^ w) (length t) f) m n
+        ∙ ap (λ (K : Kind ℕ). choose K (h - suc r) a b (reads K t source b)) (kind-same w h g)

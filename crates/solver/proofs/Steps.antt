@@ -1,57 +1,42 @@
 -- One unit as the code does it, way by way, and a call's units one by one.
 -- Assumes nothing.
-use mathlib.Core.Path.{_≡_, refl, sym, _∙_, ap, ap₂, subst}
+use mathlib.Core.Path.{_≡_, refl, sym, _∙_, ap, subst}
 use mathlib.Core.Bool.{Bool, true, false}
 use mathlib.Core.List.{List, []}
 use Prim.Native.Nat.{ℕ, zero, suc, _+_, _*_, _-_, _^_, _<_, _≤_}
 use native.Mathlib.Nat.{add-comm}
 use native.Mathlib.Omega.{arith}
 use lib.Dec.{ltb}
-use lib.ListN.{set}
 use Rattle.board.specs.Answers.{Answer, refuses}
-use Rattle.board.specs.Checks.{tableSize}
 use Rattle.elimination.specs.Candidates.{Choice, nothing, chosen}
-use Rattle.elimination.specs.Table.{fillEntry}
-use Rattle.elimination.specs.Task.{Task, row}
-use Rattle.elimination.specs.Filling.{fillAt}
-use Rattle.elimination.specs.Filling as Filling
+use Rattle.elimination.specs.Kind.{Kind, choose}
+use Rattle.elimination.specs.Table.{reads, fillEntry}
+use Rattle.elimination.specs.Task.{Task, fill, row, isFill}
 use Rattle.elimination.specs.Job.{Setup}
-use Rattle.elimination.specs.FillThenChoose.{plan}
-use Rattle.elimination.proofs.FillThenChoose.{plan-fill, plan-row}
 use Rattle.rule.specs.Rule.{nextUnder}
 use Rattle.score_table.specs.Rows.{rowWorth}
-use Rattle.score_table.specs.ScoreTable.{unitPlace, unitEntry, rowChoice}
+use Rattle.score_table.specs.ScoreTable.{kindOf}
 use Rattle.score_table.proofs.Marks.{row-worth-le}
-use Rattle.board.proofs.Powers.{table-four}
-use Rattle.score_table.proofs.Places.{place-same}
-use Rattle.job.specs.Jobs.{markOf, liveOf, jobFits, stageOf, jobOf, nextJob, afterEntry, afterRow, afterNone}
-use Rattle.job.specs.declared.Stage.{Stage}
+use Rattle.job.specs.Jobs.{shapeOf, aboveOf, lastOf, markOf, liveOf, jobFits, stageOf, jobOf, nextJob, afterEntry, afterRow, afterNone}
 use Rattle.job.specs.declared.Job.{Job}
 use Rattle.job.specs.declared.Done.{Done}
 use Rattle.job.proofs.Fits.{fits-at}
-use Rattle.job.proofs.Next.{fits-filling, fits-choosing, next-entry, next-row, next-none}
+use Rattle.job.proofs.Next.{fills-stage, next-entry, next-row, next-none}
 use Rattle.service.specs.Service.{next, spoiled, worksOn, stageSays}
-use Rattle.service.specs.Units.{rowNumbers, noneNumbers, rowStep, markStep, unitBy}
+use Rattle.service.specs.Units.{entryNumbers, rowNumbers, noneNumbers, rowStep, markStep, unitBy}
 use Rattle.service.proofs.Calls.{works-none, works-next, works-spoiled}
 use Rattle.solver.specs.Rows.{written}
 use Rattle.solver.specs.Units.{State, setupOf, unitOf, grid}
 use Rattle.solver.specs.Inner.{hasEnded, lentState, stepOf, Lent, Chooses, Moves}
 use Rattle.solver.specs.declared.choosing.Stepped.{Stepped}
-use Rattle.solver.proofs.TableLaws.{RowBelow, choice-lt, entry-same, choice-same}
-use Rattle.solver.proofs.UnitLaws.{unit-fits, unit-lent}
+use Rattle.solver.proofs.TableLaws.{RowBelow, choice-lt}
+use Rattle.solver.proofs.UnitLaws.{unit-fits, unit-lent, choosing, row-in}
 use Rattle.solver.proofs.WorkLaws.{ended-stays, works-ended}
 
 next-not-spoiled : {j : Job} {A : Type 0} → Stepped.Next j ≡ Stepped.Spoiled → A
 next-not-spoiled e = absurd (let z : _≡_ {A = ℕ} 0 1 = cc in omega arith)
 
--- ---- a unit, in the terms of a grid's table
--- the job of the next numbers
-row-job : (j : Job) (above last live : ℕ) → j .stage ≡ Stage.Choosing above last live → (r c n : ℕ) (b : Bool) → ltb (r + 1) (j .height) ≡ b
-    → jobOf (rowNumbers (j .height) r j c n) ≡ afterRow (j .rule) (j .width) (j .height) (j .units) r last c n
-unfolding stageOf
-row-job j above last live e r c n true p = rw (p, e)
-row-job j above last live e r c n false p = rw (p, e)
-
+-- ---- a unit, by its task
 module _ (j : Job) (g t β : List ℕ) where
   abbrev w : ℕ
   w = j .width
@@ -59,64 +44,75 @@ module _ (j : Job) (g t β : List ℕ) where
   abbrev h : ℕ
   h = j .height
 
-  abbrev layer : ℕ
-  layer = 2 ^ w * 2 ^ w
-
   abbrev here : State
   here = lentState j t β
 
   abbrev grids : Setup ℕ (List ℕ)
   grids = setupOf (j .rule) w h g
 
-  unit-fill : (above last live : ℕ) → j .stage ≡ Stage.Filling above last live → j .units < tableSize w h
-      → unitOf g here ≡ next (lentState (afterEntry (j .rule) w h (j .units) above last live) (set t (unitPlace w h (j .units)) (unitEntry (nextUnder (j .rule)) w h g t (j .units))) β)
-  unfolding unitOf unitBy stageOf fillEntry Filling.place
-  unit-fill above last live e l =
-      let p : plan h layer (j .units) ≡ fillAt h layer (j .units) = plan-fill h layer (j .units) (rw (table-four w h) at l) in
-      rw (e, p, entry-same (j .rule) w h g t (j .units), place-same w h (j .units))
+  abbrev kinds : Kind ℕ
+  kinds = kindOf (nextUnder (j .rule)) w h g
 
-  module _ (above last live : ℕ) (e : j .stage ≡ Stage.Choosing above last live) (l : tableSize w h ≤ j .units) (r : ℕ) (q : r ≡ j .units - tableSize w h) where
-    unit-choose : unitOf g here ≡ rowStep grids r here (rowChoice (nextUnder (j .rule)) w h g t r above last)
-    unfolding unitOf unitBy
-    unit-choose =
-        let d : j .units ≡ h * layer + r = omega (arith, table-four w h) in
-        let p : plan h layer (j .units) ≡ row r (r * layer) = ap (plan h layer) d ∙ plan-row h layer r in
-        rw (choice-same (j .rule) w h g t r above last) (ap (λ (o : Task). markStep grids (markOf (j .stage)) o here) p ∙ rw e)
+  -- the job of the next numbers
+  entry-job : markOf (j .stage) ≡ 0 → jobOf (entryNumbers j) ≡ afterEntry (j .rule) w h (j .units) (aboveOf (j .stage)) (lastOf (j .stage)) (liveOf (j .stage))
+  unfolding stageOf
+  entry-job m = rw m
 
--- ---- a unit, by stage
-module _ (j : Job) (g t β : List ℕ) where
-  pub moves-fill : {above last live : ℕ} → jobFits j ≡ true → j .stage ≡ Stage.Filling above last live → (j′ : Job) → j′ ≡ nextJob j Done.Entry
-      → (t′ : List ℕ) → t′ ≡ set t (unitPlace (j .width) (j .height) (j .units)) (unitEntry (nextUnder (j .rule)) (j .width) (j .height) g t (j .units))
-      → Moves j g t β (Stepped.Next j′) t′ β
-  moves-fill {above} {last} {live} f e j′ p t′ q = record { step = rw (p, next-entry j f e, q) (sym (unit-fill j g t β above last live e (fits-filling j f e .until))); same = next-not-spoiled }
+  row-job : (r c n : ℕ) (b : Bool) → ltb (r + 1) h ≡ b → jobOf (rowNumbers h r j c n) ≡ afterRow (j .rule) w h (j .units) r (lastOf (j .stage)) c n
+  unfolding stageOf
+  row-job r c n true p = rw p
+  row-job r c n false p = rw p
+
+  unit-fill : (k source target i : ℕ) → markOf (j .stage) ≡ 0 → shapeOf w h .plan (j .units) ≡ fill k source target i
+      → unitOf g here ≡ next (lentState (jobOf (entryNumbers j)) (fillEntry kinds k source target i t) β)
+  unfolding unitOf unitBy
+  unit-fill k source target i m p = ap (λ (o : Task). markStep grids (markOf (j .stage)) o here) p ∙ ap (λ (n : ℕ). markStep grids n (fill k source target i) here) m
+
+  unit-choose : (r source : ℕ) → markOf (j .stage) ≡ 0 → shapeOf w h .plan (j .units) ≡ row r source
+      → unitOf g here
+      ≡ rowStep grids r here (choose kinds (h - suc r) (aboveOf (j .stage)) (lastOf (j .stage)) (reads kinds t source (lastOf (j .stage))))
+  unfolding unitOf unitBy
+  unit-choose r source m p = ap (λ (o : Task). markStep grids (markOf (j .stage)) o here) p ∙ ap (λ (n : ℕ). markStep grids n (row r source) here) m
+
+  pub moves-fill : {k source target i : ℕ} → jobFits j ≡ true → markOf (j .stage) ≡ 0 → shapeOf w h .plan (j .units) ≡ fill k source target i
+      → (j′ : Job) → j′ ≡ nextJob j Done.Entry → (t′ : List ℕ) → t′ ≡ fillEntry kinds k source target i t → Moves j g t β (Stepped.Next j′) t′ β
+  moves-fill {k} {source} {target} {i} f m p j′ q t′ e = record {
+    step =
+        rw (q, next-entry j f (fills-stage j f m (ap isFill p)), ← entry-job m, e) (sym (unit-fill k source target i m p));
+    same = next-not-spoiled;
+  }
 
   -- an ended job stays
   pub moves-ended : hasEnded (j .stage) ≡ true → Moves j g t β (Stepped.Next j) t β
   moves-ended o = record { step = sym (ended-stays g (lentState j t β) o); same = next-not-spoiled }
 
 -- a row, with r rows above it
-module _ (j : Job) (above last : ℕ) (g t β : List ℕ) (C : Chooses j above last g t β) (r : ℕ) (e : r ≡ j .units - tableSize (j .width) (j .height)) where
+module _ (j : Job) (r source : ℕ) (g t β : List ℕ) (C : Chooses j r source g t β) where
   abbrev choice : Choice ℕ
-  choice = rowChoice (nextUnder (j .rule)) (j .width) (j .height) g t r above last
+  choice =
+      choose (kindOf (nextUnder (j .rule)) (j .width) (j .height) g) (j .height - suc r) (aboveOf (j .stage)) (lastOf (j .stage))
+      (reads (kindOf (nextUnder (j .rule)) (j .width) (j .height) g) t source (lastOf (j .stage)))
 
   comes : (o : Choice ℕ) → choice ≡ o → rowStep (setupOf (j .rule) (j .width) (j .height) g) r (lentState j t β) o ≡ unitOf g (lentState j t β)
   comes o f =
-      sym (unit-choose j g t β above last (C .live) (C .stage) (fits-choosing j (C .lent .taken) (C .stage) .from) r e
-      ∙ ap (rowStep (setupOf (j .rule) (j .width) (j .height) g) r (lentState j t β)) f)
+      sym (unit-choose j g t β r source (C .running) (C .task) ∙ ap (rowStep (setupOf (j .rule) (j .width) (j .height) g) r (lentState j t β)) f)
 
   pub moves-row : (c n : ℕ) → choice ≡ chosen c n → (x : ℕ) → x ≡ rowWorth (j .width) g (r * j .width) c → (j′ : Job) → j′ ≡ nextJob j (Done.Row c x)
       → Moves j g t β (Stepped.Next j′) t (written (j .width) c β (r * j .width) (j .width))
   moves-row c n f x p j′ q =
-      let F = fits-choosing j (C .lent .taken) (C .stage) in
+      let I = row-in C in
+      let live = liveOf (j .stage) in
       let T = fits-at j (C .lent .taken) in
-      let l : c < 2 ^ j .width = subst (RowBelow (2 ^ j .width)) f (choice-lt (j .rule) (T .frame .size) g t r above last) in
+      let l : c < 2 ^ j .width =
+      subst (RowBelow (2 ^ j .width)) f (choice-lt (j .rule) (T .frame .size) g (j .height - suc r) (aboveOf (j .stage)) (lastOf (j .stage))
+      (reads (kindOf (nextUnder (j .rule)) (j .width) (j .height) g) t source (lastOf (j .stage)))) in
       let m : x ≤ j .width = rw p (row-worth-le (j .width) g (r * j .width) c) in
-      let d : j .height - suc (j .height - suc r) ≡ r = omega (arith, F .from, F .until) in
+      let d : j .height - suc (j .height - suc r) ≡ r = omega (arith, I .inside) in
       let y : ℕ = rowWorth (j .width) g ((j .height - suc (j .height - suc r)) * j .width) c in
-      let v : y + liveOf (j .stage) ≡ C .live + x = add-comm y (liveOf (j .stage)) ∙ ap₂ (λ (a b : ℕ). a + b) (ap liveOf (C .stage)) (ap (λ (k : ℕ). rowWorth (j .width) g (k * j .width) c) d ∙ sym p) in
-      let same : jobOf (rowNumbers (j .height) r j c (y + liveOf (j .stage))) ≡ j′ =
-      ap (λ (k : ℕ). jobOf (rowNumbers (j .height) r j c k)) v ∙ row-job j above last (C .live) (C .stage) r c (C .live + x) (ltb (r + 1) (j .height)) refl
-      ∙ sym (q ∙ next-row j (C .lent .taken) (C .stage) r e c x l m) in record {
+      let v : y + live ≡ live + x = add-comm y live ∙ ap (λ (b : ℕ). live + b) (ap (λ (k : ℕ). rowWorth (j .width) g (k * j .width) c) d ∙ sym p) in
+      let same : jobOf (rowNumbers (j .height) r j c (y + live)) ≡ j′ =
+      ap (λ (k : ℕ). jobOf (rowNumbers (j .height) r j c k)) v ∙ row-job j g t β r c (live + x) (ltb (r + 1) (j .height)) refl
+      ∙ sym (q ∙ next-row j (C .lent .taken) (choosing C) r (I .rows) c x l m) in record {
         step = ap (λ (i : Job). next (lentState i t (written (j .width) c β (r * j .width) (j .width)))) (sym same) ∙ comes (chosen c n) f;
         same = next-not-spoiled;
       }
@@ -127,7 +123,7 @@ module _ (j : Job) (above last : ℕ) (g t β : List ℕ) (C : Chooses j above l
 
   pub moves-none : r ≡ 0 → choice ≡ nothing → (j′ : Job) → j′ ≡ nextJob j Done.NoRow → Moves j g t β (Stepped.Next j′) t β
   moves-none z f j′ q = record {
-    step = rw (q, next-none j (C .lent .taken) (C .stage) (sym e ∙ z), ← none-job z) (go r z ∙ comes nothing f);
+    step = rw (q, next-none j (C .lent .taken) (choosing C) (sym (row-in C .rows) ∙ z), ← none-job z) (go r z ∙ comes nothing f);
     same = next-not-spoiled;
   }
     where

@@ -1,30 +1,32 @@
 -- A unit of a job that fits leaves a job that fits, of the same width and height, and memory of the same lengths: what a working call's checks
 -- have shown holds before each of its units.
 -- Assumes nothing.
-use mathlib.Core.Path.{_≡_, refl, _∙_, subst}
+use mathlib.Core.Path.{_≡_, refl, _∙_, ap, subst}
 use mathlib.Core.Bool.{Bool, true, false, cond}
 use mathlib.Core.List.{List}
 use Prim.Native.Nat.{ℕ, zero, suc, _+_, _*_, _-_, _^_, _≤_, _<_}
+use native.Mathlib.Omega.{arith}
 use lib.ListN.{length, length-set}
 use Rattle.elimination.specs.Candidates.{Choice, nothing, chosen}
 use Rattle.rule.specs.declared.Rule.{Rule}
 use Rattle.board.specs.Checks.{tableSize}
-use Rattle.job.specs.Jobs.{aboveOf, lastOf, markOf, jobFits}
+use Rattle.job.specs.Jobs.{shapeOf, aboveOf, lastOf, liveOf, markOf, jobFits}
 use Rattle.rule.specs.Rule.{nextUnder}
 use Rattle.elimination.specs.Kind.{choose}
 use Rattle.elimination.specs.Table.{reads, fillEntry}
 use Rattle.score_table.specs.ScoreTable.{kindOf}
-use Rattle.elimination.specs.Task.{Task, fill, row}
+use Rattle.elimination.specs.Task.{Task, fill, row, isFill}
 use Rattle.elimination.specs.FillThenChoose.{plan}
 use Rattle.service.specs.Units.{rowStep, taskStep, markStep, unitBy}
 use Rattle.service.specs.Service.{next, spoiled}
 use Rattle.solver.specs.Units.{State, Step, setupOf, unitOf}
 use Rattle.solver.specs.Inner.{Lent, Chooses}
-use Rattle.score_table.specs.Inner.{Memory}
+use Rattle.score_table.specs.Inner.{Memory, EntryRead}
 use Rattle.job.specs.declared.Stage.{Stage}
 use Rattle.job.specs.declared.Job.{Job}
-use Rattle.job.proofs.Fits.{Choosing, jobAt, fits-at}
-use Rattle.job.proofs.Next.{fits-filling, fits-choosing}
+use Rattle.job.proofs.Shapes.{fill-at, row-at, layer-in}
+use Rattle.job.proofs.Fits.{Choosing, fits-at}
+use Rattle.job.proofs.Next.{fits-choosing, chooses-stage}
 use Rattle.solver.proofs.Writing.{written-length}
 use Rattle.solver.proofs.Machine.{follows}
 
@@ -86,15 +88,42 @@ unit-lent g s s′ L e =
       entries = rw (F .width, F .height, N .table) (L .entries);
     }
 
--- ---- what they have shown, by the job's stage
-pub lent-memory : {j : Job} {g t β : List ℕ} → Lent j g t β → Memory (j .width) (j .height) g t
+-- ---- what they have shown, by the job's task
+pub lent-memory : {j : Job} {g t β : List ℕ} → Lent j g t β → Memory (j .width) (j .height) g
 lent-memory {j} L =
     let T = fits-at j (L .taken) in
-    record { narrow = T .frame .size .narrow; low = T .frame .size .low; marks = L .marks; entries = L .entries }
+    record { narrow = T .frame .size .narrow; low = T .frame .size .low; marks = L .marks }
 
-pub lent-early : {j : Job} {g t β : List ℕ} {above last live : ℕ} → Lent j g t β → j .stage ≡ Stage.Filling above last live → j .units < tableSize (j .width) (j .height)
-lent-early {j} L e = fits-filling j (L .taken) e .until
+-- where an entry is to be filled
+pub lent-read : {j : Job} {g t β : List ℕ} {k source target i : ℕ} → Lent j g t β → shapeOf (j .width) (j .height) .plan (j .units) ≡ fill k source target i
+    → EntryRead (j .width) (j .height) k source i g t × (target + 4 ^ j .width ≤ length t)
+lent-read {j} {g} {t} {β} {k} {source} {target} {i} L p =
+    let F = fill-at (j .width) (j .height) (j .units) k source target i p in (
+      record { memory = lent-memory L; after = F .after; inside = F .inside; layer = λ z. omega (arith, F .reads z, L .entries) },
+      omega (arith, F .writes, L .entries),
+    )
 
 -- where a row is to be chosen
-pub chooses-at : {j : Job} {above last : ℕ} {g t β : List ℕ} (C : Chooses j above last g t β) → Choosing (j .width) (j .height) (j .units) above last (C .live)
-chooses-at {j} C = fits-choosing j (C .lent .taken) (C .stage)
+pub choosing : {j : Job} {r source : ℕ} {g t β : List ℕ} (C : Chooses j r source g t β)
+    → j .stage ≡ Stage.Choosing (aboveOf (j .stage)) (lastOf (j .stage)) (liveOf (j .stage))
+choosing {j} C = chooses-stage j (C .lent .taken) (C .running) (ap isFill (C .task))
+
+pub chooses-at : {j : Job} {r source : ℕ} {g t β : List ℕ} (C : Chooses j r source g t β)
+    → Choosing (j .width) (j .height) (j .units) (aboveOf (j .stage)) (lastOf (j .stage)) (liveOf (j .stage))
+chooses-at {j} C = fits-choosing j (C .lent .taken) (choosing C)
+
+-- it is one of the board's, and its layer lies within the table
+pub record RowIn (j : Job) (r source : ℕ) (t : List ℕ) : Type 0 where
+  pub rows : r ≡ j .units - tableSize (j .width) (j .height)
+  pub inside : r < j .height
+  pub layer : source + 4 ^ j .width ≤ length t
+
+pub row-in : {j : Job} {r source : ℕ} {g t β : List ℕ} → Chooses j r source g t β → RowIn j r source t
+row-in {j} {r} {source} C =
+    let R = row-at (j .width) (j .height) (j .units) r source (C .task) in
+    let F = chooses-at C in
+    let l : r < j .height = omega (arith, R .rows, R .from, F .until) in record {
+      rows = R .rows;
+      inside = l;
+      layer = omega (arith, R .layer, layer-in (j .width) (j .height) r l, C .lent .entries);
+    }

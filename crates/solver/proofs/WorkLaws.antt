@@ -1,7 +1,7 @@
--- An ended job stays as it is, whatever is left of the allowance.
+-- A job that hasn't ended runs; an ended one stays as it is, whatever is left of the allowance.
 -- Assumes nothing.
 use mathlib.Core.Path.{_≡_, refl, sym}
-use mathlib.Core.Bool.{true, true≢false}
+use mathlib.Core.Bool.{true, false, true≢false}
 use mathlib.Core.List.{List}
 use Prim.Native.Nat.{ℕ}
 use Rattle.service.specs.Service.{next, worksOn, stageSays}
@@ -9,7 +9,14 @@ use Rattle.service.specs.Units.{unitBy}
 use Rattle.service.proofs.Calls.{works-still}
 use Rattle.solver.specs.Units.{State, unitOf, grid}
 use Rattle.solver.specs.Inner.{hasEnded}
+use Rattle.job.specs.Jobs.{markOf}
 use Rattle.job.specs.declared.Stage.{Stage}
+
+pub running-mark : (s : Stage) → hasEnded s ≡ false → markOf s ≡ 0
+running-mark (Stage.Filling above last live) e = refl
+running-mark (Stage.Choosing above last live) e = refl
+running-mark (Stage.Finished above last score) e = absurd (true≢false e)
+running-mark Stage.Infeasible e = absurd (true≢false e)
 
 module _ (g : List ℕ) where
   pub ended-stays : (s : State) → hasEnded (s .job .stage) ≡ true → unitOf g s ≡ next s

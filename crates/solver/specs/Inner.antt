@@ -6,7 +6,8 @@ use mathlib.Core.List.{List}
 use Prim.Native.Nat.{ℕ, _*_, _≤_}
 use lib.ListN.{length}
 use Rattle.board.specs.Checks.{tableSize}
-use Rattle.job.specs.Jobs.{jobFits}
+use Rattle.elimination.specs.Task.{row}
+use Rattle.job.specs.Jobs.{shapeOf, markOf, jobFits}
 use Rattle.service.specs.Service.{next, spoiled}
 use Rattle.solver.specs.Units.{State, Step, unitOf}
 use Rattle.solver.specs.declared.choosing.Stepped.{Stepped}
@@ -30,11 +31,11 @@ pub record Lent (j : Job) (givens table board : List ℕ) : Type 0 where
   pub cells : length board ≡ j .width * j .height
   pub entries : tableSize (j .width) (j .height) ≤ length table
 
--- and where a row is to be chosen
-pub record Chooses (j : Job) (above last : ℕ) (givens table board : List ℕ) : Type 0 where
+-- and where row r is to be chosen, by the layer that starts at `source`
+pub record Chooses (j : Job) (r source : ℕ) (givens table board : List ℕ) : Type 0 where
   pub lent : Lent j givens table board
-  pub live : ℕ
-  pub stage : j .stage ≡ Stage.Choosing above last live
+  pub running : markOf (j .stage) ≡ 0
+  pub task : shapeOf (j .width) (j .height) .plan (j .units) ≡ row r source
 
 abbrev pub stepOf : Stepped → List ℕ → List ℕ → Step
 stepOf (Stepped.Next j) table board = next (lentState j table board)

@@ -15,24 +15,24 @@ pub enum Stepped {
     Spoiled,
 }
 
-// Chooses the row below `above` and `last`, and writes it into its part of the board.
+// Chooses the row that has r rows above it, by its layer, which starts at `source`, and writes it into its part of the board.
 pub fn choose(
     next: &[u8; 512],
     job: Job,
-    above: usize,
-    last: usize,
+    r: usize,
+    source: usize,
     givens: &[u8],
     table: &[u16],
     board: &mut [u8],
 ) -> Stepped
     requires { ⌜ Holds (nextUnder (job .rule)) (now next) ⌝ }
-    requires { ⌜ Chooses job above last (now givens) (now table) (now board) ⌝ }
+    requires { ⌜ Chooses job r source (now givens) (now table) (now board) ⌝ }
     ensures { λ r. ⌜ Moves job (now (givens .entry)) (now (table .entry)) (now (board .entry)) r (now (table .entry)) (now (board .exit)) ⌝ }
 {
     let w = job.width;
     let h = job.height;
-    let r = job.units - (h << (2 * w));
-    match score_table::choose_row(next, w, h, r, above, last, givens, table) {
+    let t = job.numbers();
+    match score_table::choose_row(next, w, h, r, source, t.above, t.last, givens, table) {
         Picked::Nothing => {
             if r != 0 {
                 return Stepped::Spoiled;

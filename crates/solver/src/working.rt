@@ -9,6 +9,7 @@ use job::Done;
 use job::Job;
 use job::Paused;
 use job::Stage;
+use job::Task;
 ghost use mathlib.Core.Path.{_≡_};
 ghost use Rattle.board.specs.Answers.{checkSays};
 ghost use Rattle.rule.specs.Rule.{Holds, nextUnder};
@@ -93,26 +94,32 @@ fn unit(next: &[u8; 512], job: Job, givens: &[u8], table: &mut [u16], board: &mu
     ensures { λ r. ⌜ Moves job (now (givens .entry)) (now (table .entry)) (now (board .entry)) r (now (table .exit)) (now (board .exit)) ⌝ }
 {
     let stage = job.stage;
-    match stage {
-        Stage::Filling {
-            above: _,
-            last: _,
-            live: _,
+    if has_ended(stage) {
+        return Stepped::Next(job);
+    }
+    match job.task() {
+        Task::Fill {
+            after,
+            source,
+            target,
+            entry,
         } => {
-            score_table::fill(next, job.width, job.height, job.units, givens, table);
+            score_table::fill(
+                next,
+                job.width,
+                job.height,
+                after,
+                source,
+                target,
+                entry,
+                givens,
+                table,
+            );
             Stepped::Next(job.after(Done::Entry))
         }
-        Stage::Choosing {
-            above,
-            last,
-            live: _,
-        } => choosing::choose(next, job, above, last, givens, table, board),
-        Stage::Finished {
-            above: _,
-            last: _,
-            score: _,
-        } => Stepped::Next(job),
-        Stage::Infeasible => Stepped::Next(job),
+        Task::Choose { row, source } => {
+            choosing::choose(next, job, row, source, givens, table, board)
+        }
     }
 }
 

@@ -1,62 +1,36 @@
--- `score_table::filling::entry_at` meets its contract: layer h by the agreement of the last rows, a layer above by its best row.
+-- `score_table::filling::entry_at` meets its contract: the last layer by the agreement of the last rows, a layer above by its best row.
 -- Assumes nothing.
 use mathlib.Core.Path.{_≡_, sym, _∙_, ap}
 use Prim.Native.Nat.{_+_, _*_, _-_, _/_, _%_, _^_, _≤_, _<_}
 use native.Mathlib.Nat.{mul-le-mul}
 use native.Mathlib.Omega.{arith}
+use borrow.Author.Needs.{needs}
 use borrow.Author.Tests.{not-true, not-false}
+use lib.ListN.{length}
 use lib.Pow.{pow-pos}
 use Rattle.elimination.specs.Kind.{worthOf}
 use Rattle.score_table.specs.Inner.{choiceOf}
 use Rattle.score_table.specs.declared.best.Best.{Best}
-use Rattle.board.proofs.Powers.{table-le}
-use Rattle.score_table.proofs.Entries.{row-room, layer-room, row-a-lt, row-b-lt, after-lt, entry-apart, entry-open, entry-ends, entry-best}
-use borrow.Author.Needs.{needs}
+use Rattle.score_table.proofs.Entries.{row-room, layer-room, row-a-lt, row-b-lt, entry-apart, entry-open, entry-ends, entry-best}
 use Rattle.score_table.proofs.filling.entry_at.Statement.{statement}
 use Rattle.score_table.proofs.filling.entry_at.Tie as tie
 
-four : (d : tie.After-row-codes) → d .before .layer-size .result ≡ 4 ^ d .before .before .before .before .args .w
-four d = d .before .layer-size .ensures .0
-
-two : (d : tie.After-row-codes) → d .row-codes .result ≡ 2 ^ d .before .before .before .before .args .w
+two : (d : tie.After-row-codes) → d .row-codes .result ≡ 2 ^ d .before .before .before .args .w
 two d = d .row-codes .ensures .0
 
-a-lt : (d : tie.After-row-codes) → let g = d .before .before .before .before .args in g .u % d .before .layer-size .result / d .row-codes .result < 2 ^ g .w
-a-lt d = row-a-lt _ _ _ _ (four d) (two d)
+a-lt : (d : tie.After-row-codes) → let g = d .before .before .before .args in g .j / d .row-codes .result < 2 ^ g .w
+a-lt d = row-a-lt _ _ _ (two d) (d .before .before .before .pre .inside)
 
-b-lt : (d : tie.After-row-codes) → let g = d .before .before .before .before .args in g .u % d .before .layer-size .result % d .row-codes .result < 2 ^ g .w
-b-lt d = row-b-lt _ _ _ _ (four d) (two d)
-
--- the rows after the entry, and the rows above the row that it asks for
-fewer : (d : tie.After-row-codes) → let g = d .before .before .before .before .args in g .u / d .before .layer-size .result < g .h
-fewer d = after-lt _ _ _ _ _ (four d) (two d) (d .before .before .before .before .pre .1)
-
-rows-le : (d : tie.After-row-codes) → let g = d .before .before .before .before .args in g .h - g .u / d .before .layer-size .result ≤ 60
-rows-le d = omega (arith, d .before .before .before .before .pre .0 .low)
-
-lower : (d : tie.After-row-codes) → let g = d .before .before .before .before .args in
-    (g .u / d .before .layer-size .result ≡ 0 → ⊥) → g .h - g .u / d .before .layer-size .result < g .h
-lower d n = omega (arith, fewer d, n)
+b-lt : (d : tie.After-row-codes) → let g = d .before .before .before .args in g .j % d .row-codes .result < 2 ^ g .w
+b-lt d = row-b-lt _ _ _ (two d)
 
 -- where the layer below starts for row b
-first-le : (d : tie.After-row-codes) → let g = d .before .before .before .before .args in
-    (g .u / d .before .layer-size .result ≡ 0 → ⊥)
-    → (g .h - g .u / d .before .layer-size .result) * d .before .layer-size .result + g .u % d .before .layer-size .result % d .row-codes .result * d .row-codes .result ≤ 62914560
-first-le d n =
-    let p = d .before .before .before .before .pre .0 in
-    omega (arith, layer-room (d .before .before .before .before .args .w) _ _ _ _ _ (four d) (two d) (lower d n) (b-lt d), table-le (p .narrow) (p .low))
-
-layer-size-requires : tie.Need-layer-size-requires
-layer-size-requires c κs = search needs
+first-room : (d : tie.After-row-codes) → let g = d .before .before .before .args in
+    (g .k ≡ 0 → ⊥) → g .source + g .j % d .row-codes .result * d .row-codes .result + 2 ^ g .w ≤ length (g .table .now)
+first-room d n = layer-room _ _ _ _ _ (two d) (b-lt d) (d .before .before .before .pre .layer n)
 
 row-codes-requires : tie.Need-row-codes-requires
 row-codes-requires c κs = search needs
-
-div-k : tie.Need-div-k
-div-k c = search needs
-
-rem-j : tie.Need-rem-j
-rem-j c = search needs
 
 div-a : tie.Need-div-a
 div-a c = rw (two c) (pow-pos _)
@@ -65,53 +39,53 @@ rem-b : tie.Need-rem-b
 rem-b c = rw (two c) (pow-pos _)
 
 agrees-requires : tie.Need-agrees-requires
-agrees-requires c κs = let d = c .before in (d .before .before .before .before .pre .0 .narrow, a-lt d, b-lt d, pow-pos _)
+agrees-requires c κs = let d = c .before in (d .before .before .before .pre .memory .narrow, a-lt d, b-lt d, pow-pos _)
 
 returns : tie.Need-returns
 returns c =
     let d = c .before .before .before in
-    entry-apart _ _ _ _ _ (four d) (two d) _ _ _ (c .before .before .if1 .taken) (sym (c .before .agrees .ensures) ∙ not-true _ (c .if2 .taken))
+    entry-apart _ _ _ (two d) _ _ _ _ _ _ (c .before .before .if1 .taken) (sym (c .before .agrees .ensures) ∙ not-true _ (c .if2 .taken))
 
 agrees-requires-2 : tie.Need-agrees-requires-2
-agrees-requires-2 c κs = let d = c .before .before .before in (d .before .before .before .before .pre .0 .narrow, b-lt d, pow-pos _, pow-pos _)
+agrees-requires-2 c κs = let d = c .before .before .before in (d .before .before .before .pre .memory .narrow, b-lt d, pow-pos _, pow-pos _)
 
 returns-2 : tie.Need-returns-2
 returns-2 c =
     let d = c .before .before .before .before .before in
-    entry-open _ _ _ _ _ (four d) (two d) _ _ _ (c .before .before .before .before .if1 .taken)
+    entry-open _ _ _ (two d) _ _ _ _ _ _ (c .before .before .before .before .if1 .taken)
     (sym (c .before .before .before .agrees .ensures) ∙ not-false _ (c .before .before .if2 .left)) (sym (c .before .agrees2 .ensures) ∙ not-true _ (c .if3 .taken))
 
 returns-3 : tie.Need-returns-3
 returns-3 c =
     let d = c .before .before .before .before .before in
-    entry-ends _ _ _ _ _ (four d) (two d) _ _ _ (c .before .before .before .before .if1 .taken)
+    entry-ends _ _ _ (two d) _ _ _ _ _ _ (c .before .before .before .before .if1 .taken)
     (sym (c .before .before .before .agrees .ensures) ∙ not-false _ (c .before .before .if2 .left)) (sym (c .before .agrees2 .ensures) ∙ not-false _ (c .if3 .left))
 
 sub-r : tie.Need-sub-r
-sub-r c = omega (arith, fewer (c .before))
+sub-r c = search needs
 
 mul-best-row : tie.Need-mul-best-row
-mul-best-row c = let d = c .before in omega (arith, mul-le-mul (rows-le d) (d .before .before .before .before .pre .0 .narrow))
+mul-best-row c =
+    let s = c .before .before .before .before in
+    let l : s .args .h - s .args .k ≤ 60 = omega (arith, s .pre .memory .low) in
+    omega (arith, mul-le-mul l (s .pre .memory .narrow))
 
 mul-best-row-2 : tie.Need-mul-best-row-2
-mul-best-row-2 c = omega (arith, mul-le-mul (rows-le (c .before)) (c .before .before .layer-size .ensures .2))
-
-mul-best-row-3 : tie.Need-mul-best-row-3
-mul-best-row-3 c = omega (arith, first-le (c .before) (c .if1 .left))
+mul-best-row-2 c = omega (arith, first-room (c .before) (c .if1 .left))
 
 add-best-row : tie.Need-add-best-row
-add-best-row c = omega (arith, first-le (c .before) (c .if1 .left))
+add-best-row c = omega (arith, first-room (c .before) (c .if1 .left))
 
 best-row-requires : tie.Need-best-row-requires
 best-row-requires c κs =
     let d = c .before in
-    let p = d .before .before .before .before .pre .0 in
-    let l = lower d (c .if1 .left) in (
-      p .narrow,
+    let s = d .before .before .before in
+    let l : s .args .h - s .args .k < s .args .h = omega (arith, s .pre .after, c .if1 .left) in (
+      s .pre .memory .narrow,
       a-lt d,
       b-lt d,
-      omega (arith, row-room (d .before .before .before .before .args .w) _ _ l, p .marks),
-      omega (arith, layer-room (d .before .before .before .before .args .w) _ _ _ _ _ (four d) (two d) l (b-lt d), p .entries),
+      omega (arith, row-room (s .args .w) _ _ l, s .pre .memory .marks),
+      omega (arith, first-room d (c .if1 .left)),
     )
 
 enum-told : tie.Need-enum-told
@@ -123,28 +97,25 @@ enum-known-e c = search needs
 cast-result : tie.Need-cast-result
 cast-result c =
     let d = c .before .before .before .before .before in
-    omega (arith, d .before .before .before .before .pre .0 .narrow, c .before .before .before .best-row .ensures .number-le _ _ (c .before .e .given .1))
+    omega (arith, d .before .before .before .pre .memory .narrow, c .before .before .before .best-row .ensures .number-le _ _ (c .before .e .given .1))
 
 returns-4 : tie.Need-returns-4
 returns-4 c =
     let d = c .before .before .before .before in
     ap (λ (o : Best). worthOf 65535 (choiceOf o)) (sym (c .enum-told .given .1))
-    ∙ entry-best _ _ _ _ _ (four d) (two d) _ _ _ (d .before .before .before .before .pre .1) (c .before .before .before .if1 .left) _ (c .before .before .best-row .ensures)
+    ∙ entry-best _ _ _ (two d) _ _ _ _ _ _ (c .before .before .before .if1 .left) _ (c .before .before .best-row .ensures)
 
 returns-5 : tie.Need-returns-5
 returns-5 c =
     let d = c .before .before .before .before .before in
     ap (λ (o : Best). worthOf 65535 (choiceOf o)) (sym (c .before .e .given .1))
-    ∙ entry-best _ _ _ _ _ (four d) (two d) _ _ _ (d .before .before .before .before .pre .1) (c .before .before .before .before .if1 .left) _ (c .before .before .before .best-row .ensures)
+    ∙ entry-best _ _ _ (two d) _ _ _ _ _ _ (c .before .before .before .before .if1 .left) _ (c .before .before .before .best-row .ensures)
 
 pub entry-at-spec : {M : Type 1} → statement M
 entry-at-spec =
     tie.close
     (tie.spec
-    layer-size-requires
     row-codes-requires
-    div-k
-    rem-j
     div-a
     rem-b
     agrees-requires
@@ -155,7 +126,6 @@ entry-at-spec =
     sub-r
     mul-best-row
     mul-best-row-2
-    mul-best-row-3
     add-best-row
     best-row-requires
     enum-told
