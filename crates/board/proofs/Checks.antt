@@ -9,7 +9,7 @@ use borrow.Author.Tests.{eqb-true, leb-true, eq-eqb, le-leb}
 use lib.ListN.{length, getD}
 use Rattle.board.specs.Search.{firstNot}
 use Rattle.board.specs.Answers.{gives, passed, _then_}
-use Rattle.board.specs.Boards.{among, Sized, Bytes, Board}
+use Rattle.board.specs.Boards.{among, maxWidth, maxHeight, Sized, Bytes, Board}
 use Rattle.board.specs.Checks.{lengthCheck, bytesCheck, widthCheck, heightCheck, sizeCheck, cellsCheck, givensCheck, boardCheck, atMost, ChecksRight}
 use Rattle.board.proofs.Tests.{among-yes, among-in}
 use Rattle.board.proofs.Answers.{then-gives, unless-gives, at-gives}
@@ -20,8 +20,8 @@ pub sized : (w h : ℕ) {vs : List ℕ} → sizeCheck w h ≡ gives vs → Sized
 unfolding sizeCheck
 sized w h e =
     let p = then-gives (widthCheck w) (heightCheck h) e in
-    let a = among-in 10 w (unless-gives (among 10 w) 1 (p .0 .1)) in
-    let b = among-in 60 h (unless-gives (among 60 h) 2 (p .1)) in
+    let a = among-in maxWidth w (unless-gives (among maxWidth w) 1 (p .0 .1)) in
+    let b = among-in maxHeight h (unless-gives (among maxHeight h) 2 (p .1)) in
     record { some-column = a .0; narrow = a .1; some-row = b .0; low = b .1 }
 
 pub size-passes : {w h : ℕ} → Sized w h → sizeCheck w h ≡ passed

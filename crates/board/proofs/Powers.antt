@@ -5,13 +5,14 @@ use Prim.Native.Nat.{ℕ, zero, suc, _+_, _*_, _/_, _%_, _^_, _<_, _≤_}
 use native.Mathlib.Nat.{mod-eq-of-lt, one-mul, mul-le-mul, pow-suc, div-lt-iff-lt-mul, le-div-iff-mul-le}
 use native.Mathlib.Omega.{arith}
 use lib.Pow.{pow-pos, pow-mono, pow-add}
+use Rattle.board.specs.Boards.{maxWidth, maxHeight}
 use Rattle.board.specs.Checks.{tableSize}
 
 -- ---- 2^w
-pub two-le : {w : ℕ} → w ≤ 10 → 2 ^ w ≤ 1024
+pub two-le : {w : ℕ} → w ≤ maxWidth → 2 ^ w ≤ 1024
 two-le l = pow-mono l
 
-pub two-shift : {w : ℕ} → w ≤ 10 → 1 * 2 ^ w % 2 ^ 64 ≡ 2 ^ w
+pub two-shift : {w : ℕ} → w ≤ maxWidth → 1 * 2 ^ w % 2 ^ 64 ≡ 2 ^ w
 two-shift {w} l = let b : 2 ^ w ≤ 1024 = two-le l in rw one-mul (mod-eq-of-lt (omega arith))
 
 -- ---- 4^w
@@ -25,10 +26,10 @@ four-two w = let e : 2 * w ≡ w + w = omega arith in rw (← (four-pow w), e) (
 pub four-pos : (w : ℕ) → 0 < 4 ^ w
 four-pos w = rw (four-pow w) at (pow-pos (2 * w))
 
-pub four-le : {w : ℕ} → w ≤ 10 → 4 ^ w ≤ 1048576
+pub four-le : {w : ℕ} → w ≤ maxWidth → 4 ^ w ≤ 1048576
 four-le {w} l = let b : 2 ^ (2 * w) ≤ 2 ^ 20 = pow-mono {j = 20} (omega arith) in rw (four-pow w) at b
 
-pub four-shift : {w : ℕ} → w ≤ 10 → 1 * 2 ^ (2 * w) % 2 ^ 64 ≡ 4 ^ w
+pub four-shift : {w : ℕ} → w ≤ maxWidth → 1 * 2 ^ (2 * w) % 2 ^ 64 ≡ 4 ^ w
 four-shift {w} l = let b : 4 ^ w ≤ 1048576 = four-le l in rw (one-mul, four-pow w) (mod-eq-of-lt (omega arith))
 
 -- ---- h × 4^w
@@ -36,11 +37,11 @@ pub table-four : (w h : ℕ) → tableSize w h ≡ h * (2 ^ w * 2 ^ w)
 unfolding tableSize
 table-four w h = ap (λ (q : ℕ). h * q) (four-two w)
 
-pub table-le : {w h : ℕ} → w ≤ 10 → h ≤ 60 → tableSize w h ≤ 62914560
+pub table-le : {w h : ℕ} → w ≤ maxWidth → h ≤ maxHeight → tableSize w h ≤ 62914560
 unfolding tableSize
 table-le {w} {h} l m = let b : h * 4 ^ w ≤ 60 * 1048576 = mul-le-mul m (four-le l) in omega arith
 
-pub table-shift : {w h : ℕ} → w ≤ 10 → h ≤ 60 → h * 2 ^ (2 * w) % 2 ^ 64 ≡ tableSize w h
+pub table-shift : {w h : ℕ} → w ≤ maxWidth → h ≤ maxHeight → h * 2 ^ (2 * w) % 2 ^ 64 ≡ tableSize w h
 unfolding tableSize
 table-shift {w} {h} l m = let b : h * 4 ^ w ≤ 62914560 = table-le l m in rw (four-pow w) (mod-eq-of-lt (omega arith))
 
@@ -52,3 +53,15 @@ shift-short w h x l = rw (← (four-pow w)) (div-lt-iff-lt-mul (pow-pos (2 * w))
 pub shift-long : (w h x : ℕ) → h ≤ x / 2 ^ (2 * w) → tableSize w h ≤ x
 unfolding tableSize
 shift-long w h x l = rw (← (four-pow w)) (le-div-iff-mul-le (pow-pos (2 * w)) .0 l)
+
+-- no rows want no entries, and from width 32 on a row wants more than any table has
+pub table-none : (w x : ℕ) → tableSize w 0 ≤ x
+unfolding tableSize
+table-none w x = omega arith
+
+pub table-wide : (w h : ℕ) {x : ℕ} → 31 < w → 0 < h → x < 2 ^ 64 → x < tableSize w h
+unfolding tableSize
+table-wide w h {x} l m b =
+    let p : 2 ^ 64 ≤ 2 ^ (2 * w) = pow-mono {i = 64} (omega arith) in
+    let q : 1 * 2 ^ 64 ≤ h * 2 ^ (2 * w) = mul-le-mul m p in
+    rw (← (four-pow w)) (omega arith)

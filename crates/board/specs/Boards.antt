@@ -11,12 +11,19 @@ use lib.ListN.{length, getD}
 abbrev pub among : ℕ → ℕ → Bool
 among n i = leb 1 i && leb i n
 
+-- the most columns and rows
+abbrev pub maxWidth : ℕ
+maxWidth = 10
+
+abbrev pub maxHeight : ℕ
+maxHeight = 60
+
 -- a size: width 1 to 10, height 1 to 60
 pub record Sized (w h : ℕ) : Type 0 where
   pub some-column : 0 < w
-  pub narrow : w ≤ 10
+  pub narrow : w ≤ maxWidth
   pub some-row : 0 < h
-  pub low : h ≤ 60
+  pub low : h ≤ maxHeight
 
 -- w × h bytes in reading order, each at most a limit
 pub record Bytes (most w h : ℕ) (bytes : List ℕ) : Type 0 where

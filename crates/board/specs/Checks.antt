@@ -9,15 +9,15 @@ use lib.Dec.{eqb, leb}
 use lib.ListN.{length, getD}
 use Rattle.board.specs.Search.{firstNot}
 use Rattle.board.specs.Answers.{Answer, _then_, passed, refuseUnless, refuseAt}
-use Rattle.board.specs.Boards.{among, Sized, Board, Givens}
+use Rattle.board.specs.Boards.{among, maxWidth, maxHeight, Sized, Board, Givens}
 
 -- 1, Width: w is 0 or above 10
 abbrev pub widthCheck : ℕ → Answer
-widthCheck w = refuseUnless (among 10 w) 1
+widthCheck w = refuseUnless (among maxWidth w) 1
 
 -- 2, Height: h is 0 or above 60
 abbrev pub heightCheck : ℕ → Answer
-heightCheck h = refuseUnless (among 60 h) 2
+heightCheck h = refuseUnless (among maxHeight h) 2
 
 -- 3 for givens, 5 for a board: not w × h long
 abbrev pub lengthCheck : ℕ → ℕ → ℕ → List ℕ → Answer

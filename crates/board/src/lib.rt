@@ -5,7 +5,7 @@ ghost use lib.Dec.{eqb};
 ghost use lib.ListN.{length};
 ghost use Rattle.board.specs.Answers.{numberOf, checkSays, placeOf};
 ghost use Rattle.board.specs.Boards.{among};
-ghost use Rattle.board.specs.Checks.{widthCheck, heightCheck, sizeCheck, cellsCheck, boardCheck, givensCheck, atMost};
+ghost use Rattle.board.specs.Checks.{widthCheck, heightCheck, sizeCheck, cellsCheck, boardCheck, givensCheck, atMost, tableCheck};
 ghost use Rattle.board.specs.Search.{firstNot};
 
 // Why a call is turned away, in the order of the documents' numbers, with the first wrong place where they give one.
@@ -54,11 +54,16 @@ impl Refusal {
     }
 }
 
+// The most columns and rows of a grid.
+pub const MAX_WIDTH: usize = 10;
+
+pub const MAX_HEIGHT: usize = 60;
+
 // 1: width 1 to 10.
 pub fn check_width(w: usize) -> Check
     ensures { λ r. ⌜ checkSays r ≡ widthCheck w ⌝ }
 {
-    if is_among(10, w) {
+    if is_among(MAX_WIDTH, w) {
         Check::Passed
     } else {
         Check::Refused(Refusal::Width)
@@ -69,7 +74,7 @@ pub fn check_width(w: usize) -> Check
 pub fn check_height(h: usize) -> Check
     ensures { λ r. ⌜ checkSays r ≡ heightCheck h ⌝ }
 {
-    if is_among(60, h) {
+    if is_among(MAX_HEIGHT, h) {
         Check::Passed
     } else {
         Check::Refused(Refusal::Height)
@@ -120,6 +125,23 @@ pub fn check_givens(w: usize, h: usize, givens: &[u8]) -> Check
         Place::At(i) => Check::Refused(Refusal::Mark(i)),
         Place::Nowhere => Check::Passed,
     }
+}
+
+// 6: h × 4^w entries or more, for any w and h: the product is never formed.
+pub fn check_table(w: usize, h: usize, table: &[u16]) -> Check
+    ensures { λ r. ⌜ checkSays r ≡ tableCheck w h (now (table .entry)) ⌝ }
+{
+    let n = table.len();
+    if h == 0 {
+        return Check::Passed;
+    }
+    if 31 < w {
+        return Check::Refused(Refusal::ShortTable);
+    }
+    if n >> (2 * w) < h {
+        return Check::Refused(Refusal::ShortTable);
+    }
+    Check::Passed
 }
 
 // Whether there are w × h bytes, for any w and h: the product is never formed.

@@ -115,3 +115,32 @@ module _ {X : Type 0} (K : Comparison X) (holds : X → Bool) (merges : (x y : X
 
   pub chosen-keeps : (m r : ℕ) (y : X) → scan K offer m ≡ chosen r y → holds y ≡ true
   chosen-keeps m r y e = subst Keeps e (scan-keeps m)
+
+-- a row that is chosen is one of those tried
+abbrev pub RowBelow : {X : Type 0} → ℕ → Choice X → Type 0
+RowBelow m nothing = Unit {0}
+RowBelow m (chosen c x) = c < m
+
+module _ {X : Type 0} (K : Comparison X) where
+  row-more : (m : ℕ) (r : Choice X) → RowBelow m r → RowBelow (suc m) r
+  row-more m nothing l = tt
+  row-more m (chosen c y) l = omega arith
+
+  consider-below : (m : ℕ) (o : Option X) (r : Choice X) → RowBelow m r → RowBelow (suc m) (consider K m o r)
+  consider-below m none r l = row-more m r l
+  consider-below m (some x) nothing l = omega arith
+  consider-below m (some x) (chosen c y) l = go (K .worse y x) (K .worse x y)
+    where
+      tie : (t : Bool) → RowBelow (suc m) (settleTie t m c (K .merge y x))
+      tie true = omega arith
+      tie false = omega arith
+
+      go : (t u : Bool) → RowBelow (suc m) (against K t u m x c y)
+      go true u = omega arith
+      go false true = omega arith
+      go false false = tie (K .greaterFirst)
+
+  pub scan-below : (offer : ℕ → Option X) (m : ℕ) → RowBelow m (scan K offer m)
+  unfolding scan
+  scan-below offer zero = tt
+  scan-below offer (suc m) = consider-below m (offer m) (scan K offer m) (scan-below offer m)

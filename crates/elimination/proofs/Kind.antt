@@ -8,7 +8,7 @@ use Prim.Native.Nat.{ℕ, zero, suc, _<_}
 use native.Mathlib.Omega.{arith}
 use Rattle.elimination.specs.Candidates.{scan}
 use Rattle.elimination.specs.Kind.{Kind, worthOf, rowsOf, offerIf, offer, choose, entry, rightEntry, rightRows}
-use Rattle.elimination.proofs.Candidates.{scan-ext}
+use Rattle.elimination.proofs.Candidates.{scan-ext, RowBelow, scan-below}
 
 module _ {X : Type 0} (G : Kind X) where
   -- ---- a candidate
@@ -57,6 +57,11 @@ module _ {X : Type 0} (G : Kind X) where
   pub right-rows-more : (k a b : ℕ) → rightRows G (suc k) a b ≡ rowsOf (choose G k a b (rightEntry G k b)) (rightRows G k b)
   unfolding rightRows
   right-rows-more k a b = refl
+
+  -- a row that is chosen is one
+  pub choose-below : (k a b : ℕ) (read : ℕ → X) → RowBelow (G .codes) (choose G k a b read)
+  unfolding choose
+  choose-below k a b read = scan-below (G .comparison) (offer G k a b read) (G .codes)
 
   -- a choice asks only the numbers of rows
   pub choose-ext : (k a b : ℕ) (f g : ℕ → X) → ((c : ℕ) → c < G .codes → f c ≡ g c) → choose G k a b f ≡ choose G k a b g

@@ -7,13 +7,12 @@ pub mod Kind
 pub mod Endings
 pub mod Sums
 pub mod Table
-pub mod Filling
+pub mod Task
 pub mod Places
 pub mod Machine
 pub mod Job
 pub mod Completion
 pub mod FillThenChoose
-pub mod Whole
 pub mod TwoLayers
 pub mod Shape
 pub mod Progress

@@ -1,27 +1,24 @@
 -- An orderly plan keeps the table invariant, so it is sound.
 -- Assumes nothing.
-use mathlib.Core.Path.{_≡_, refl, sym, _∙_, ap, subst}
-use mathlib.Core.Bool.{Bool, true, false, true≢false}
+use mathlib.Core.Path.{_≡_, refl, sym, _∙_, ap}
+use mathlib.Core.Bool.{false}
 use mathlib.Core.List.{List}
 use mathlib.Core.Logic.{⊎-elim}
-use Prim.Native.Nat.{ℕ, zero, suc, _+_, _*_, _-_, _/_, _%_, _≤_, _<_}
-use native.Mathlib.Nat.{zero-add, add-zero, mod-lt}
+use Prim.Native.Nat.{ℕ, zero, suc, _+_, _-_, _/_, _%_, _≤_, _<_}
+use native.Mathlib.Nat.{zero-add, mod-lt}
 use native.Mathlib.Omega.{arith}
-use borrow.Author.Tests.{eqb-false, eq-eqb}
-use lib.Dec.{eqb}
+use borrow.Author.Tests.{eqb-false}
 use lib.ListN.{length, getD, set, length-set}
 use lib.Seq.{getD-set-same, getD-set-other}
-use Rattle.elimination.specs.Kind.{Kind, entry, rightEntry}
-use Rattle.elimination.specs.Table.{layerSize, reads, rightAt, RightLayer}
+use Rattle.elimination.specs.Kind.{Kind, entry}
+use Rattle.elimination.specs.Table.{reads, rightAt, RightLayer}
 use Rattle.elimination.specs.Task.{Task, fill, row, fillTask, afterTasks}
 use Rattle.elimination.specs.Plan.{Schedule, afterWork, SoundPlan}
 use Rattle.elimination.specs.Places.{writes, Stands, Filled, Orderly, Scheduled, TableFilled, OrderlySound}
 use Rattle.elimination.proofs.Numbers.{eq-or-lt-of-lt-suc}
 use Rattle.elimination.proofs.Kind.{right-entry-last}
+use Rattle.elimination.proofs.Task.{row-not-fill, tasks-none, tasks-more, tasks-add}
 use Rattle.elimination.proofs.Table.{right-at-entry, entry-right, fill-entry-set}
-
-row-fill : {A : Type 0} {r s k source target j : ℕ} → row r s ≡ fill k source target j → A
-row-fill e = absurd (let z : _≡_ {A = ℕ} 0 1 = cc in omega arith)
 
 module _ {X : Type 0} (G : Kind X) {h room long : ℕ} {plan : ℕ → Task} (O : Orderly (G .codes) h room long plan) (wide : 0 < G .codes) where
   -- an entry that stands after one unit more, which isn't the one that filled it
@@ -52,7 +49,7 @@ module _ {X : Type 0} (G : Kind X) {h room long : ℕ} {plan : ℕ → Task} (O 
       go : (o : Task) → plan m ≡ o → Filled G plan (suc m) t₀ (fillTask G o t)
       go (row r s) e = record {
         size = F .size;
-        right = λ p k j S. ⊎-elim (λ (q : S .unit ≡ m). row-fill (sym e ∙ ap plan (sym q) ∙ S .fills)) (λ (q : S .unit < m). F .right p k j (stood S q)) (eq-or-lt-of-lt-suc (S .before));
+        right = λ p k j S. ⊎-elim (λ (q : S .unit ≡ m). row-not-fill (sym e ∙ ap plan (sym q) ∙ S .fills)) (λ (q : S .unit < m). F .right p k j (stood S q)) (eq-or-lt-of-lt-suc (S .before));
         rest = λ p f. F .rest p (λ v b. f v (omega arith));
       }
       go (fill k source target j) e = rw (fill-entry-set G k source target j t) (record {
@@ -87,20 +84,6 @@ pub table-filled : {X : Type 0} (G : Kind X) → TableFilled G
 table-filled G h room long plan O wide t₀ r m l = filled G O wide t₀ r m l
 
 -- ---- soundness
-module _ {X : Type 0} (G : Kind X) (plan : ℕ → Task) where
-  tasks-add : (u m : ℕ) (t : List X) → afterTasks G plan u m (afterTasks G plan 0 u t) ≡ afterTasks G plan 0 (u + m) t
-  unfolding afterTasks
-  tasks-add u zero t = rw (add-zero u)
-  tasks-add u (suc m) t = let e : u + suc m ≡ suc (u + m) = omega arith in rw (e, tasks-add u m t, zero-add (u + m))
-
-  tasks-more : (m : ℕ) (t : List X) → afterTasks G plan 0 (suc m) t ≡ fillTask G (plan m) (afterTasks G plan 0 m t)
-  unfolding afterTasks
-  tasks-more m t = rw (zero-add m)
-
-  tasks-none : (t : List X) → afterTasks G plan 0 0 t ≡ t
-  unfolding afterTasks
-  tasks-none t = refl
-
 module _ {X : Type 0} (G : Kind X) {h room long : ℕ} {plan : ℕ → Task} {S : Schedule} (O : Orderly (G .codes) h room long plan) (C : Scheduled h long plan S) (wide : 0 < G .codes) where
   -- the table is what the units before row r left of one with room
   abbrev Ready : ℕ → List X → Type 0

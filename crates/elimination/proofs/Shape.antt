@@ -1,19 +1,19 @@
 -- A job's numbers go on fitting, for any lawful shape; and the shapes are lawful.
 -- Assumes nothing.
-use mathlib.Core.Path.{_≡_, refl, sym, _∙_, ap, ap₂, subst}
+use mathlib.Core.Path.{_≡_, refl, sym, _∙_, ap, subst}
 use mathlib.Core.Bool.{Bool, true, false, cond, _&&_, true≢false}
 use mathlib.Core.Logic.{⊎-elim}
 use Prim.Native.Nat.{ℕ, zero, suc, _+_, _-_, _*_, _≤_, _<_}
-use native.Mathlib.Nat.{mul-le-mul, zero-add, add-zero, add-sub-cancel-left}
+use native.Mathlib.Nat.{mul-le-mul, zero-add, add-sub-cancel-left}
 use native.Mathlib.Omega.{arith}
-use borrow.Author.Tests.{ltb-true, ltb-false, leb-true, eqb-true, lt-ltb, le-ltb, le-leb, lt-leb, eq-eqb, ne-eqb}
+use borrow.Author.Tests.{ltb-true, ltb-false, leb-true, eqb-true, lt-ltb, le-leb, lt-leb, eq-eqb, ne-eqb}
 use lib.Dec.{eqb, leb, ltb}
 use Rattle.elimination.specs.Task.{Task, fill, row}
-use Rattle.elimination.specs.Filling.{fillAt}
 use Rattle.elimination.specs.FillThenChoose as Whole
 use Rattle.elimination.specs.TwoLayers as Two
-use Rattle.elimination.specs.Shape.{Shape, Numbers, unitsFit, rowsChosen, rowsFit, numbersFit, afterEntry, afterRow, afterNone, ShapeLaws, GoesOn, NumbersGoOn, whole, chosenFrom, twoLayers, ShapesLawful}
+use Rattle.elimination.specs.Shape.{Shape, Numbers, unitsFit, rowsChosen, rowsFit, numbersFit, afterEntry, afterNone, ShapeLaws, NumbersGoOn, whole, chosenFrom, twoLayers, ShapesLawful}
 use Rattle.elimination.proofs.Numbers.{lt-or-ge}
+use Rattle.elimination.proofs.Task.{row-not-fill}
 use Rattle.elimination.proofs.FillThenChoose.{plan-fill, plan-row}
 use Rattle.elimination.proofs.TwoLayers as Twos
 
@@ -132,20 +132,20 @@ unfolding unitsFit rowsChosen
 numbers-go-on S L n f m = record {
   after-entry = λ k source target j p.
       let e = L .fills (n .units) k source target j (R .until) p in
-      fit-of S (afterEntry S n) (R .over) (R .below) (lt-ltb (suc (n .units)) (S .boardLength) (e .1)) (S .chosen (n .units)) (e .0) (R .rows);
+      fit-of S (afterEntry n) (R .over) (R .below) (lt-ltb (suc (n .units)) (S .boardLength) (e .1)) (S .chosen (n .units)) (e .0) (R .rows);
   after-row = λ r source p c x lc lx. go r source p c x lc lx (ltb (suc r) (S .rows)) refl;
   after-none = λ source p.
       let e = L .chooses (n .units) 0 source (R .until) p in
       let q : S .chosen (n .units) ≡ 0 = e .0 in
       let s = rw q at (R .rows) in
-      fit-of S (afterNone S n) (R .over) (R .below) (eq-eqb (suc (n .units)) (S .noneLength) (L .none (n .units) source (R .until) p)) 0 refl s;
+      fit-of S (afterNone n) (R .over) (R .below) (eq-eqb (suc (n .units)) (S .noneLength) (L .none (n .units) source (R .until) p)) 0 refl s;
 }
   where
     R : Runs S n
     R = runs-at S n f m
 
-    go : (r source : ℕ) → S .plan (n .units) ≡ row r source → (c x : ℕ) → c < S .codes → x ≤ S .most → (b : Bool) → ltb (suc r) (S .rows) ≡ b
-        → numbersFit S (record { units = suc (n .units); above = n .last; last = c; live = x + n .live; mark = cond b 0 1 }) ≡ true
+    go : (r source : ℕ) → S .plan (n .units) ≡ row r source → (c x : ℕ) → c < S .codes → x ≤ S .most + n .live → (b : Bool) → ltb (suc r) (S .rows) ≡ b
+        → numbersFit S (record { units = suc (n .units); above = n .last; last = c; live = x; mark = cond b 0 1 }) ≡ true
     go r source p c x lc lx b e = fin b e
       where
         k : (S .chosen (n .units) ≡ r) × (S .chosen (suc (n .units)) ≡ suc r)
@@ -154,21 +154,51 @@ numbers-go-on S L n f m = record {
         old : Rows (S .most) r (n .above) (n .last) (n .live)
         old = rw (k .0) at (R .rows)
 
-        rows : Rows (S .most) (suc r) (n .last) c (x + n .live)
-        rows = record { few = omega (arith, old .few); none = λ q. absurd (omega arith); one = λ l. old .none (omega arith) }
+        rows : Rows (S .most) (suc r) (n .last) c x
+        rows = record { few = omega (arith, old .few, lx); none = λ q. absurd (omega arith); one = λ l. old .none (omega arith) }
 
-        fin : (b : Bool) → ltb (suc r) (S .rows) ≡ b → numbersFit S (record { units = suc (n .units); above = n .last; last = c; live = x + n .live; mark = cond b 0 1 }) ≡ true
+        fin : (b : Bool) → ltb (suc r) (S .rows) ≡ b → numbersFit S (record { units = suc (n .units); above = n .last; last = c; live = x; mark = cond b 0 1 }) ≡ true
         fin true q =
-            fit-of S (record { units = suc (n .units); above = n .last; last = c; live = x + n .live; mark = 0 }) (R .below) lc
+            fit-of S (record { units = suc (n .units); above = n .last; last = c; live = x; mark = 0 }) (R .below) lc
             (lt-ltb (suc (n .units)) (S .boardLength) (L .goes-on (n .units) r source (R .until) p (ltb-true (suc r) (S .rows) q))) (suc r) (k .1) rows
         fin false q =
-            fit-of S (record { units = suc (n .units); above = n .last; last = c; live = x + n .live; mark = 1 }) (R .below) lc
+            fit-of S (record { units = suc (n .units); above = n .last; last = c; live = x; mark = 1 }) (R .below) lc
             (eq-eqb (suc (n .units)) (S .boardLength) (L .ends (n .units) r source (R .until) p (ltb-false (suc r) (S .rows) q))) (suc r) (k .1) rows
 
--- ---- the whole table, then the rows
-row-fill : {A : Type 0} {r s k source target j : ℕ} → row r s ≡ fill k source target j → A
-row-fill e = absurd (let z : _≡_ {A = ℕ} 0 1 = cc in omega arith)
+-- ---- the rows chosen, for any lawful shape
+-- none where no unit has chosen
+pub rows-chosen-none : (S : Shape) (u mark : ℕ) → S .chosen u ≡ 0 → rowsChosen S u mark ≡ 0
+unfolding rowsChosen
+rows-chosen-none S u mark e = go (eqb mark 2)
+  where
+    go : (b : Bool) → cond b 0 (S .chosen u) ≡ 0
+    go true = refl
+    go false = e
 
+module _ (S : Shape) (L : ShapeLaws S) where
+  -- before the last unit there is a row to choose
+  pub chosen-few : 0 < S .rows → (m : ℕ) → m < S .boardLength → S .chosen m < S .rows
+  chosen-few high zero l = rw (L .none-chosen) high
+  chosen-few high (suc m) l = go (S .plan m) refl (chosen-few high m (omega arith))
+    where
+      go : (o : Task) → S .plan m ≡ o → S .chosen m < S .rows → S .chosen (suc m) < S .rows
+      go (fill k source target j) p i = rw (L .fills m k source target j (omega arith) p .0) i
+      go (row r source) p i =
+          ⊎-elim (λ (a : suc r < S .rows). rw (L .chooses m r source (omega arith) p .1) a)
+          (λ (a : S .rows ≤ suc r). absurd (omega (arith, L .ends m r source (omega arith) p a))) (lt-or-ge (suc r) (S .rows))
+
+  -- before the length of none no row is chosen
+  pub chosen-late : S .noneLength ≤ S .boardLength → (m : ℕ) → m < S .noneLength → S .chosen m ≡ 0
+  chosen-late short zero l = L .none-chosen
+  chosen-late short (suc m) l = go (S .plan m) refl (chosen-late short m (omega arith))
+    where
+      go : (o : Task) → S .plan m ≡ o → S .chosen m ≡ 0 → S .chosen (suc m) ≡ 0
+      go (fill k source target j) p i = L .fills m k source target j (omega arith) p .0 ∙ i
+      go (row r source) p i =
+          let z : r ≡ 0 = sym (L .chooses m r source (omega arith) p .0) ∙ i in
+          absurd (omega (arith, L .none m source (omega arith) (p ∙ ap (λ (x : ℕ). row x source) z)))
+
+-- ---- the whole table, then the rows
 module _ (codes h most : ℕ) where
   abbrev q : ℕ
   q = codes * codes
@@ -176,11 +206,11 @@ module _ (codes h most : ℕ) where
   early : (u k source target j : ℕ) → Whole.plan h q u ≡ fill k source target j → u < h * q
   early u k source target j p =
       ⊎-elim (λ (l : u < h * q). l)
-      (λ (l : h * q ≤ u). let d : u ≡ h * q + (u - h * q) = omega arith in row-fill (sym (ap (Whole.plan h q) d ∙ plan-row h q (u - h * q)) ∙ p)) (lt-or-ge u (h * q))
+      (λ (l : h * q ≤ u). let d : u ≡ h * q + (u - h * q) = omega arith in row-not-fill (sym (ap (Whole.plan h q) d ∙ plan-row h q (u - h * q)) ∙ p)) (lt-or-ge u (h * q))
 
   late : (u r source : ℕ) → Whole.plan h q u ≡ row r source → u ≡ h * q + r
   late u r source p =
-      ⊎-elim (λ (l : u < h * q). row-fill (sym p ∙ plan-fill h q u l))
+      ⊎-elim (λ (l : u < h * q). row-not-fill (sym p ∙ plan-fill h q u l))
       (λ (l : h * q ≤ u).
       let d : u ≡ h * q + (u - h * q) = omega arith in
       let e : row (u - h * q) ((u - h * q) * q) ≡ row r source = sym (ap (Whole.plan h q) d ∙ plan-row h q (u - h * q)) ∙ p in
@@ -260,7 +290,7 @@ two-lawful codes h most wide high = record {
     late u r source l p = go (Twos.does h q u l)
       where
         go : Twos.Does h q u → (u ≡ Two.startOf h q r + (h - r) * q) × (r < h)
-        go (Twos.fills r′ m lr lm is) = row-fill (sym p ∙ ap (Two.plan h q) is ∙ Twos.plan-fill h q r′ m lr lm)
+        go (Twos.fills r′ m lr lm is) = row-not-fill (sym p ∙ ap (Two.plan h q) is ∙ Twos.plan-fill h q r′ m lr lm)
         go (Twos.chooses r′ lr is) =
             let e : row r′ (Two.half q (r′ + 1)) ≡ row r source = sym (Twos.plan-row h q r′ lr) ∙ ap (Two.plan h q) (sym is) ∙ p in
             let f : r′ ≡ r = cc in
@@ -275,7 +305,7 @@ two-lawful codes h most wide high = record {
               ap (chosenFrom q h) e ∙ chosen-here h q r (suc m) lr lm ∙ sym (ap (chosenFrom q h) is ∙ chosen-here h q r m lr (omega arith)),
               omega (arith, Twos.within h q some r lr),
             )
-        go (Twos.chooses r lr is) = row-fill (sym (Twos.plan-row h q r lr) ∙ ap (Two.plan h q) (sym is) ∙ p)
+        go (Twos.chooses r lr is) = row-not-fill (sym (Twos.plan-row h q r lr) ∙ ap (Two.plan h q) (sym is) ∙ p)
 
     chooses : (u r source : ℕ) → u < Two.startOf h q h → Two.plan h q u ≡ row r source → (chosenFrom q h u ≡ r) × (chosenFrom q h (suc u) ≡ suc r)
     chooses u r source l p =

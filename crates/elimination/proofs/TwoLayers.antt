@@ -1,21 +1,20 @@
 -- The plan over two layers is orderly and follows its schedule, so a job with it comes to its end.
 -- Assumes nothing.
-use mathlib.Core.Path.{_≡_, refl, sym, _∙_, ap, ap₂, subst}
-use mathlib.Core.Bool.{Bool, true, false, true≢false}
-use mathlib.Core.List.{List}
+use mathlib.Core.Path.{_≡_, refl, sym, _∙_, ap, ap₂}
+use mathlib.Core.Bool.{false}
 use mathlib.Core.Logic.{⊎-elim}
 use Prim.Native.Nat.{ℕ, zero, suc, _+_, _-_, _*_, _/_, _%_, _≤_, _<_}
-use native.Mathlib.Nat.{add-zero, zero-add, mod-lt, mul-le-mul, mul-le-mul-right, div-lt-iff-lt-mul, div-add-mod', eq-or-lt-of-le, le-trans, add-sub-cancel-left}
+use native.Mathlib.Nat.{add-zero, zero-add, mod-lt, mul-le-mul, mul-le-mul-right, div-lt-iff-lt-mul, div-add-mod', eq-or-lt-of-le, add-sub-cancel-left}
 use native.Mathlib.Omega.{arith}
 use borrow.Author.Tests.{lt-ltb, le-ltb, eq-eqb, ne-eqb}
 use lib.Arith.{digits-lt, digits-div, digits-mod}
-use lib.ListN.{length}
 use Rattle.elimination.specs.Kind.{Kind}
 use Rattle.elimination.specs.Table.{layerSize}
-use Rattle.elimination.specs.Task.{Task, fill, row, isFill}
+use Rattle.elimination.specs.Task.{fill, row, isFill}
 use Rattle.elimination.specs.Places.{writes, Stands, Orderly, Scheduled}
 use Rattle.elimination.specs.TwoLayers.{half, fillIn, planFrom, plan, startOf, schedule, Lengths, twoLayers, TwoLayersComplete}
 use Rattle.elimination.proofs.Numbers.{lt-or-ge}
+use Rattle.elimination.proofs.Task.{row-not-fill}
 use Rattle.elimination.proofs.Places.{orderly-sound}
 use Rattle.elimination.proofs.Completion.{job-completes}
 
@@ -96,9 +95,6 @@ module _ (h q : ℕ) where
   pub two-lengths : Lengths h q
   two-lengths = let e : h - h ≡ 0 = omega arith in record { board = omega (arith, rw e at (start-length h (omega arith))); none = let d : h - 0 ≡ h = omega arith in rw d (omega arith) }
 
-row-fill : {A : Type 0} {r s k source target j : ℕ} → row r s ≡ fill k source target j → A
-row-fill e = absurd (let z : _≡_ {A = ℕ} 0 1 = cc in omega arith)
-
 -- ---- what a unit does
 pub data Does (h q u : ℕ) : Type 0 where
   fills : (r m : ℕ) → r < h → m < (h - r) * q → u ≡ startOf h q r + m → Does h q u
@@ -171,7 +167,7 @@ module _ (h q : ℕ) (some : 0 < q) where
             let sj : m % q ≡ j = cc in
             let d : half q (h - m / q) + m % q < 2 * q = digits-lt (mod-lt (h - m / q) (omega arith)) (mod-lt m some) in
             omega arith
-        go (chooses r lr is) = row-fill (sym (plan-row h q r lr) ∙ ap (plan h q) (sym is) ∙ e)
+        go (chooses r lr is) = row-not-fill (sym (plan-row h q r lr) ∙ ap (plan h q) (sym is) ∙ e)
 
     reads : (k source target j : ℕ) → plan h q u ≡ fill (suc k) source target j → (i : ℕ) → i < q → Stands (plan h q) u (source + i) k i
     reads k source target j e i li = go (does h q u l)
@@ -188,13 +184,13 @@ module _ (h q : ℕ) (some : 0 < q) where
             let source-is : half q (h - k) ≡ source = ap (half q) (sym f) ∙ ss in
             let over = mod-lt m some in
             rw (is, ← source-is) (stands r k i m lr (omega arith) li (omega arith) (omega arith) (omega arith))
-        go (chooses r lr is) = row-fill (sym (plan-row h q r lr) ∙ ap (plan h q) (sym is) ∙ e)
+        go (chooses r lr is) = row-not-fill (sym (plan-row h q r lr) ∙ ap (plan h q) (sym is) ∙ e)
 
     picks : (r source : ℕ) → plan h q u ≡ row r source → (i : ℕ) → i < q → Stands (plan h q) u (source + i) (h - suc r) i
     picks r source e i li = go (does h q u l)
       where
         go : Does h q u → Stands (plan h q) u (source + i) (h - suc r) i
-        go (fills r′ m lr lm is) = row-fill (sym e ∙ ap (plan h q) is ∙ plan-fill h q r′ m lr lm)
+        go (fills r′ m lr lm is) = row-not-fill (sym e ∙ ap (plan h q) is ∙ plan-fill h q r′ m lr lm)
         go (chooses r′ lr is) =
             let same : row r′ (half q (r′ + 1)) ≡ row r source = sym (plan-row h q r′ lr) ∙ ap (plan h q) (sym is) ∙ e in
             let sr : r′ ≡ r = cc in

@@ -1,25 +1,35 @@
--- Document 01, "A job and its units": the plan that fills the whole table, the last layer first, and then chooses the rows, the first row first.
--- The job's length, its table after any units, and its end.
+-- Document 01, "A job and its units": the plan that fills the whole table, the last layer first, one entry a unit, and then chooses the rows, the
+-- first row first. The job's length, and its end.
 -- Assumes nothing.
 use mathlib.Core.Path.{_≡_}
 use mathlib.Core.Bool.{cond}
 use mathlib.Core.List.{List}
-use Prim.Native.Nat.{ℕ, zero, suc, _+_, _-_, _*_, _≤_, _<_, min}
+use Prim.Native.Nat.{ℕ, zero, suc, _+_, _-_, _*_, _/_, _%_, _≤_, _<_}
 use lib.Dec.{ltb}
 use lib.ListN.{length}
 use Rattle.elimination.specs.Kind.{Kind}
 use Rattle.elimination.specs.Endings.{Laws}
 use Rattle.elimination.specs.Table.{layerSize}
-use Rattle.elimination.specs.Task.{Task, row}
-use Rattle.elimination.specs.Filling.{fillAt, afterFilling, Filled}
-use Rattle.elimination.specs.Machine.{advance}
-use Rattle.elimination.specs.Job.{running, State, Setup, opened, machine}
+use Rattle.elimination.specs.Task.{Task, fill, row}
+use Rattle.elimination.specs.Job.{Setup}
 use Rattle.elimination.specs.Plan.{Schedule}
 use Rattle.elimination.specs.Completion.{Completion}
 
+-- unit u of filling, in a table of h layers of q entries: the layer with u / q rows after it reads the layer below it
+abbrev pub fillAt : ℕ → ℕ → ℕ → Task
+fillAt h q u = fill (u / q) ((h - u / q) * q) ((h - 1 - u / q) * q) (u % q)
+
+-- the place that it writes
+unfoldable pub place : ℕ → ℕ → ℕ → ℕ
+place h q u = (h - 1 - u / q) * q + u % q
+
+-- row r is chosen by its layer
+abbrev pub chooseAt : ℕ → ℕ → Task
+chooseAt q r = row r (r * q)
+
 -- what unit u does, for a board of h rows with q entries to a layer
 unfoldable pub plan : ℕ → ℕ → ℕ → Task
-plan h q u = cond (ltb u (h * q)) (fillAt h q u) (row (u - h * q) ((u - h * q) * q))
+plan h q u = cond (ltb u (h * q)) (fillAt h q u) (chooseAt q (u - h * q))
 
 -- the unit at which the filling before row r starts
 abbrev pub startOf : ℕ → ℕ → ℕ → ℕ
@@ -40,23 +50,10 @@ pub record Lengths (h q : ℕ) : Type 0 where
   pub board : schedule h q .start h ≡ h * (q + 1)
   pub none : suc (schedule h q .work 0) ≡ h * q + 1
 
--- the job after m units of filling
-abbrev pub fillingState : {X B : Type 0} → Kind X → ℕ → ℕ → List X → B → State X B
-fillingState G h m t β = record { units = m; above = 0; last = 0; soFar = G .start; mark = running; table = afterFilling G h m t; board = β }
-
 module _ {X B : Type 0} (G : Kind X) (h : ℕ) (write : ℕ → ℕ → B → B) where
   -- the job set up with this plan
   abbrev pub fillThenChoose : Setup X B
   fillThenChoose = record { kind = G; height = h; write = write; plan = plan h (layerSize G) }
-
-  -- the first units fill
-  abbrev pub AdvanceFills : Type 0
-  AdvanceFills = (t : List X) (β : B) (m : ℕ) → m ≤ h * layerSize G → advance (machine fillThenChoose) m (opened G t β) ≡ fillingState G h m t β
-
-  -- THE TABLE INVARIANT of this plan: it holds after any m units, from any contents; choosing leaves the table as it is
-  abbrev pub TableAfterUnits : Type 0
-  TableAfterUnits = (t : List X) (β : B) → h * layerSize G ≤ length t → (m : ℕ)
-      → Filled G h t (advance (machine fillThenChoose) m (opened G t β) .table) (min m (h * layerSize G))
 
   -- THE THEOREM of this plan: the job comes to its end, from any table that is long enough and any board
   abbrev pub FillThenChooseCompletes : Type 0

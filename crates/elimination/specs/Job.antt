@@ -43,6 +43,12 @@ endMark running = false
 endMark finished = true
 endMark infeasible = true
 
+-- the mark's number
+abbrev pub markNumber : Mark → ℕ
+markNumber running = 0
+markNumber finished = 1
+markNumber infeasible = 2
+
 module _ {X B : Type 0} where
   -- the job has ended
   abbrev pub ended : State X B → Bool

@@ -7,7 +7,6 @@ pub mod Endings
 pub mod Sums
 pub mod Table
 pub mod Task
-pub mod Filling
 pub mod Machine
 pub mod Job
 pub mod Plan

@@ -33,6 +33,18 @@ pub record Numbers : Type 0 where
   pub live : ℕ
   pub mark : ℕ
 
+-- ---- the numbers after a unit
+abbrev pub afterEntry : Numbers → Numbers
+afterEntry n = record { units = suc (n .units); above = n .above; last = n .last; live = n .live; mark = 0 }
+
+-- row c of h is chosen with r rows above it, and all are then worth `live`
+abbrev pub afterRow : ℕ → ℕ → ℕ → ℕ → Numbers → Numbers
+afterRow h r c live n = record { units = suc (n .units); above = n .last; last = c; live = live; mark = cond (ltb (suc r) h) 0 1 }
+
+-- no row can be chosen as row 1
+abbrev pub afterNone : Numbers → Numbers
+afterNone n = record { units = suc (n .units); above = n .above; last = n .last; live = n .live; mark = 2 }
+
 -- with k rows chosen, each worth at most `most`, live is at most what they are worth, last row is 0 if k = 0, row above is 0 if k is below 2
 unfoldable pub rowsFit : ℕ → ℕ → ℕ → ℕ → ℕ → Bool
 rowsFit most k above last live = leb live (most * k) && cond (eqb k 0) (eqb last 0) true && cond (ltb k 2) (eqb above 0) true
@@ -55,17 +67,6 @@ module _ (S : Shape) where
       unitsFit (n .units) (n .mark) &&
       rowsFit (S .most) (rowsChosen (n .units) (n .mark)) (n .above) (n .last) (n .live)
 
-  -- ---- after a unit
-  abbrev pub afterEntry : Numbers → Numbers
-  afterEntry n = record { units = suc (n .units); above = n .above; last = n .last; live = n .live; mark = 0 }
-
-  -- row c, worth x, is chosen with r rows above it
-  abbrev pub afterRow : ℕ → ℕ → ℕ → Numbers → Numbers
-  afterRow r c x n = record { units = suc (n .units); above = n .last; last = c; live = x + n .live; mark = cond (ltb (suc r) (S .rows)) 0 1 }
-
-  abbrev pub afterNone : Numbers → Numbers
-  afterNone n = record { units = suc (n .units); above = n .above; last = n .last; live = n .live; mark = 2 }
-
   -- what a kind of job has to show of its plan: a unit that fills is no row and not the last; a unit that chooses is the next row, and the last
   -- unit exactly where it is the last row; the first row's is the length of none
   pub record ShapeLaws : Type 0 where
@@ -80,7 +81,8 @@ module _ (S : Shape) where
   -- THE THEOREM of a job's numbers: from numbers of a running job that fit, the next ones fit
   pub record GoesOn (n : Numbers) : Type 0 where
     pub after-entry : (k source target j : ℕ) → S .plan (n .units) ≡ fill k source target j → numbersFit (afterEntry n) ≡ true
-    pub after-row : (r source : ℕ) → S .plan (n .units) ≡ row r source → (c x : ℕ) → c < S .codes → x ≤ S .most → numbersFit (afterRow r c x n) ≡ true
+    pub after-row : (r source : ℕ) → S .plan (n .units) ≡ row r source → (c live : ℕ) → c < S .codes → live ≤ S .most + n .live
+        → numbersFit (afterRow (S .rows) r c live n) ≡ true
     pub after-none : (source : ℕ) → S .plan (n .units) ≡ row 0 source → numbersFit (afterNone n) ≡ true
 
   abbrev pub NumbersGoOn : Type 0

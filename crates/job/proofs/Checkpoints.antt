@@ -9,7 +9,7 @@ use native.Mathlib.Omega.{arith}
 use native.Mathlib.Decide.{decLt}
 use lib.Pow.{pow-pos}
 use Rattle.board.specs.Answers.{refuses, refuseUnless, _then_}
-use Rattle.board.specs.Boards.{among}
+use Rattle.board.specs.Boards.{maxWidth, maxHeight, among}
 use Rattle.board.specs.Checks.{sizeCheck}
 use Rattle.elimination.specs.Task.{isFill}
 use Rattle.elimination.specs.Shape.{Shape, unitsFit, rowsChosen}
@@ -22,9 +22,9 @@ use Rattle.job.proofs.Shapes.{board-long}
 use Rattle.job.proofs.Fits.{numbers-at, and-true, heard}
 
 -- ---- the size and the rule
-pub frame-misfits : (rule : Rule) (w h : ℕ) {n : ℕ} {vs : List ℕ} → gridCheck rule w h ≡ refuses n vs → among 10 w && among 60 h && ruleFits rule ≡ false
+pub frame-misfits : (rule : Rule) (w h : ℕ) {n : ℕ} {vs : List ℕ} → gridCheck rule w h ≡ refuses n vs → among maxWidth w && among maxHeight h && ruleFits rule ≡ false
 unfolding gridCheck sizeCheck ruleCheck
-frame-misfits rule w h {n} {vs} e = go (among 10 w) (among 60 h) (ruleFits rule) e
+frame-misfits rule w h {n} {vs} e = go (among maxWidth w) (among maxHeight h) (ruleFits rule) e
   where
     go : (s t u : Bool) → ((refuseUnless s 1 then refuseUnless t 2) then refuseUnless u 13) ≡ refuses n vs → s && t && u ≡ false
     go true true true q = absurd (let z : _≡_ {A = ℕ} 0 1 = cc in omega arith)
@@ -41,14 +41,11 @@ pub shift-some : (x w : ℕ) → (x / 2 ^ w ≡ 0 → ⊥) → 2 ^ w ≤ x
 shift-some x w n = elim (decLt x (2 ^ w)) [ yes l ↦ absurd (n (div-eq-of-lt l)) | no l ↦ omega arith ]
 
 -- at most h rows are chosen where the units fit
-pub chosen-le : (w h units mark : ℕ) → unitsFit (shapeOf w h) units mark ≡ true → rowsChosen (shapeOf w h) units mark ≤ h
+pub chosen-le : (w h units mark : ℕ) → Units (shapeOf w h) units mark → rowsChosen (shapeOf w h) units mark ≤ h
 unfolding rowsChosen
-chosen-le w h units mark e = go mark (units-at (shapeOf w h) units mark e)
-  where
-    go : (mark : ℕ) → Units (shapeOf w h) units mark → rowsChosen (shapeOf w h) units mark ≤ h
-    go mark (runs l) = omega (arith, board-long w h)
-    go mark (ends q) = omega (arith, board-long w h)
-    go mark (fails q) = omega arith
+chosen-le w h units mark (runs l) = omega (arith, board-long w h)
+chosen-le w h units mark (ends q) = omega (arith, board-long w h)
+chosen-le w h units mark (fails q) = omega arith
 
 -- ---- the job of nine numbers
 -- with no row chosen the two rows and the live cells are 0

@@ -9,7 +9,7 @@ use borrow.Author.Tests.{not-true}
 use lib.ListN.{getD}
 use lib.Pow.{pow-pos}
 use Rattle.board.specs.Answers.{Answer, gives, refuses, refuseUnless}
-use Rattle.board.specs.Boards.{among, Sized}
+use Rattle.board.specs.Boards.{maxWidth, maxHeight, among, Sized}
 use Rattle.board.specs.Checks.{tableSize}
 use Rattle.board.proofs.Answers.{refuses-none, then-gives, unless-gives}
 use Rattle.board.proofs.Tests.{and-left, and-right, among-yes, among-in}
@@ -37,9 +37,9 @@ pub record Frame (rule : Rule) (w h : ℕ) : Type 0 where
   pub size : Sized w h
   pub allowed : Allowed rule
 
-pub frame-fits : {rule : Rule} {w h : ℕ} → Frame rule w h → among 10 w && among 60 h && ruleFits rule ≡ true
+pub frame-fits : {rule : Rule} {w h : ℕ} → Frame rule w h → among maxWidth w && among maxHeight h && ruleFits rule ≡ true
 frame-fits {rule} {w} {h} z =
-    rw (among-yes 10 w (z .size .some-column) (z .size .narrow), among-yes 60 h (z .size .some-row) (z .size .low)) (allowed-fits rule (z .allowed))
+    rw (among-yes maxWidth w (z .size .some-column) (z .size .narrow), among-yes maxHeight h (z .size .some-row) (z .size .low)) (allowed-fits rule (z .allowed))
 
 pub record NumbersFit (t : Checkpoint) : Type 0 where
   pub frame : Frame (ruleOf t) (t .width) (t .height)
@@ -54,14 +54,14 @@ numbers-of t z e = and-true (frame-fits z) e
 pub numbers-at : (t : Checkpoint) → checkpointFits t ≡ true → NumbersFit t
 unfolding checkpointFits
 numbers-at t e =
-    let a = among 10 (t .width) in
-    let b = among 60 (t .height) in
+    let a = among maxWidth (t .width) in
+    let b = among maxHeight (t .height) in
     let q = ruleFits (ruleOf t) in
     let n = numbersFit (shapeOf (t .width) (t .height)) (numbersIn t) in
     let p3 = and-left (a && b && q) n e in
     let p2 = and-left (a && b) q p3 in
-    let wide = among-in 10 (t .width) (and-left a b p2) in
-    let tall = among-in 60 (t .height) (and-right a b p2) in
+    let wide = among-in maxWidth (t .width) (and-left a b p2) in
+    let tall = among-in maxHeight (t .height) (and-right a b p2) in
     let f = and-right (a && b && q) n e in record {
       frame = record {
         size = record { some-column = wide .0; narrow = wide .1; some-row = tall .0; low = tall .1 };

@@ -1,96 +1,125 @@
--- The job after a unit, where the unit can have done this.
+-- The task that is due, and the job after a unit.
 -- Assumes nothing.
-use mathlib.Core.Path.{_≡_, refl, sym, _∙_}
-use mathlib.Core.Bool.{true, false, true≢false}
-use Prim.Native.Nat.{ℕ, _+_, _-_, _^_, _≤_, _<_}
-use native.Mathlib.Nat.{mul-le-mul}
+use mathlib.Core.Path.{_≡_, refl, sym, _∙_, ap}
+use mathlib.Core.Bool.{Bool, true, false, cond, _&&_}
+use mathlib.Core.Option.{Option, none, some}
+use Prim.Native.Nat.{ℕ, zero, suc, _+_, _*_, _^_, _≤_, _<_}
+use native.Mathlib.Nat.{mul-le-mul-left}
 use native.Mathlib.Omega.{arith}
-use borrow.Author.Tests.{lt-ltb, le-ltb, le-leb, eq-eqb, ne-eqb, not-true}
-use lib.Dec.{eqb}
-use Rattle.board.specs.Checks.{tableSize}
-use Rattle.job.specs.Jobs.{shapeOf, aboveOf, lastOf, liveOf, markOf, numbersOf, stageFits, jobFits, chosenTo, afterEntry, afterRow, afterNone, doneIn, nextJob}
-use Rattle.job.specs.declared.Stage.{Stage}
-use Rattle.job.specs.declared.Job.{Job}
-use Rattle.job.specs.declared.Done.{Done}
-use Rattle.elimination.specs.Task.{isFill}
+use borrow.Author.Tests.{lt-ltb, le-leb, ltb-true, leb-true, eqb-true}
+use lib.Dec.{eqb, leb, ltb}
+use Rattle.board.specs.Boards.{maxWidth, maxHeight}
+use Rattle.board.proofs.Powers.{table-le}
+use Rattle.board.proofs.Tests.{and-left, and-right}
+use Rattle.elimination.specs.Task.{Task, fill, row}
+use Rattle.elimination.specs.Shape.{Shape, afterEntry, afterRow, afterNone}
 use Rattle.elimination.proofs.Shape.{Units, runs, ends, fails}
-use Rattle.job.proofs.Shapes.{board-long, chooses-at}
-use Rattle.job.proofs.Fits.{Early, Choosing, numbers-at, fits-numbers, fits-stage, fits-at}
+use Rattle.job.specs.Jobs.{boardLength, afterChoice, shapeOf, aboveOf, lastOf, liveOf, markOf, numbersOf, numbersIn, jobFits, taskDue, jobWith, afterTask, afterUnit}
+use Rattle.job.specs.declared.Job.{Job}
+use Rattle.job.specs.declared.Chosen.{Chosen}
+use Rattle.job.proofs.Shapes.{board-long}
+use Rattle.job.proofs.Fits.{numbers-at, fits-numbers, fits-at}
+use Rattle.job.proofs.Checkpoints.{chosen-le}
 
--- ---- the stage after a row, as the code makes it
-pub chosen-on : (w h u r last c n : ℕ) → tableSize w h ≤ u → r + 1 < h → (s : Stage) → s ≡ Stage.Choosing last c n → s ≡ chosenTo (shapeOf w h) u (r + 1) last c n
-chosen-on w h u r last c n from l s p = rw (lt-ltb (r + 1) h l, chooses-at w h u from) p
+none-some : {A : Type 0} {x : A} → none ≡ some x → _≡_ {A = ℕ} 0 1
+none-some e = cc
 
-pub chosen-over : (w h u r last c n : ℕ) → h ≤ r + 1 → (s : Stage) → s ≡ Stage.Finished last c n → s ≡ chosenTo (shapeOf w h) u (r + 1) last c n
-chosen-over w h u r last c n l s p = rw (le-ltb (r + 1) h l) p
+-- ---- sizes
+-- the units of a grid's job are few enough for one more
+pub units-few : {w h u : ℕ} → w ≤ maxWidth → h ≤ maxHeight → u < boardLength w h → u < 2 ^ 32
+units-few {w} {h} {u} a b l = omega (arith, board-long w h, table-le a b)
 
--- ---- whether a row is chosen, as the code tests it
-pub none-beyond : (u n : ℕ) → u ≡ n → eqb (u - n) 0 ≡ true
-none-beyond u n e = eq-eqb (u - n) 0 (omega arith)
+-- ---- the task that is due
+-- what a task that is due says of its job
+pub record Due (j : Job) (o : Task) : Type 0 where
+  pub narrow : j .width ≤ maxWidth
+  pub low : j .height ≤ maxHeight
+  pub running : markOf (j .stage) ≡ 0
+  pub until : j .units < boardLength (j .width) (j .height)
+  pub plans : shapeOf (j .width) (j .height) .plan (j .units) ≡ o
 
-pub some-beyond : (u n : ℕ) → n ≤ u → (u ≡ n → ⊥) → eqb (u - n) 0 ≡ false
-some-beyond u n l f = ne-eqb (u - n) 0 (λ e. f (omega arith))
+cond-some : {A : Type 0} (b : Bool) (x o : A) → cond b (some x) none ≡ some o → (b ≡ true) × (x ≡ o)
+cond-some true x o e = (refl, cc)
+cond-some false x o e = absurd (let z : _≡_ {A = ℕ} 0 1 = cc in omega arith)
 
--- ---- what a job that fits has, by its stage
+pub due-at : (j : Job) (o : Task) → taskDue j ≡ some o → Due j o
+unfolding taskDue
+due-at j o e =
+    let a = leb (j .width) maxWidth in
+    let b = leb (j .height) maxHeight in
+    let m = eqb (markOf (j .stage)) 0 in
+    let l = ltb (j .units) (boardLength (j .width) (j .height)) in
+    let p = cond-some (a && b && m && l) (shapeOf (j .width) (j .height) .plan (j .units)) o e in
+    let p3 = and-left (a && b && m) l (p .0) in
+    let p2 = and-left (a && b) m p3 in record {
+      narrow = leb-true (j .width) maxWidth (and-left a b p2);
+      low = leb-true (j .height) maxHeight (and-right a b p2);
+      running = eqb-true (markOf (j .stage)) 0 (and-right (a && b) m p3);
+      until = ltb-true (j .units) (boardLength (j .width) (j .height)) (and-right (a && b && m) l (p .0));
+      plans = p .1;
+    }
+
+-- and a job of which this holds has a task
+pub due-by : (j : Job) → j .width ≤ maxWidth → j .height ≤ maxHeight → markOf (j .stage) ≡ 0 → j .units < boardLength (j .width) (j .height)
+    → taskDue j ≡ some (shapeOf (j .width) (j .height) .plan (j .units))
+unfolding taskDue
+due-by j a b m l = rw (le-leb (j .width) maxWidth a, le-leb (j .height) maxHeight b, m, lt-ltb (j .units) (boardLength (j .width) (j .height)) l)
+
+-- where no row can be chosen the job ends at row 1, and stands at a later row
+pub ends-first : (S : Shape) (r : ℕ) (j : Job) → r ≡ 0 → jobWith j (afterNone (numbersIn (numbersOf j))) ≡ afterChoice S r j Chosen.Nothing
+ends-first S zero j e = refl
+ends-first S (suc r) j e = absurd (omega arith)
+
+pub stands-later : (S : Shape) (r : ℕ) (j : Job) → (r ≡ 0 → ⊥) → j ≡ afterChoice S r j Chosen.Nothing
+stands-later S zero j n = absurd (n refl)
+stands-later S (suc r) j n = refl
+
+-- ---- a job that fits
 module _ (j : Job) (f : jobFits j ≡ true) where
-  pub fits-size : (j .width ≤ 10) × (j .height ≤ 60)
+  pub fits-size : (j .width ≤ maxWidth) × (j .height ≤ maxHeight)
   fits-size = let z = fits-at j f .frame .size in (z .narrow, z .low)
 
-  pub fits-running : markOf (j .stage) ≡ 0 → j .units < tableSize (j .width) (j .height) + j .height
-  fits-running m = go (markOf (j .stage)) (numbers-at (numbersOf j) (fits-numbers j f) .are .units) m
+  pub fits-rows : (aboveOf (j .stage) < 2 ^ j .width) × (lastOf (j .stage) < 2 ^ j .width)
+  fits-rows = let n = numbers-at (numbersOf j) (fits-numbers j f) .are in (n .over, n .below)
+
+  pub fits-live : liveOf (j .stage) ≤ j .width * j .height
+  fits-live =
+      let n = numbers-at (numbersOf j) (fits-numbers j f) .are in
+      let k = chosen-le (j .width) (j .height) (j .units) (markOf (j .stage)) (n .units) in
+      omega (arith, n .rows .few, mul-le-mul-left (j .width) k)
+
+  -- while it runs, units are left
+  pub fits-until : markOf (j .stage) ≡ 0 → j .units < boardLength (j .width) (j .height)
+  fits-until m = go (markOf (j .stage)) (numbers-at (numbersOf j) (fits-numbers j f) .are .units) m
     where
-      go : (k : ℕ) → Units (shapeOf (j .width) (j .height)) (j .units) k → k ≡ 0 → j .units < tableSize (j .width) (j .height) + j .height
-      go k (runs l) z = omega (arith, board-long (j .width) (j .height))
+      go : (k : ℕ) → Units (shapeOf (j .width) (j .height)) (j .units) k → k ≡ 0 → j .units < boardLength (j .width) (j .height)
+      go k (runs l) z = l
       go k (ends q) z = absurd (omega arith)
       go k (fails q) z = absurd (omega arith)
 
-  -- while it runs, its stage is the task of its next unit
-  pub fills-stage : markOf (j .stage) ≡ 0 → isFill (shapeOf (j .width) (j .height) .plan (j .units)) ≡ true
-      → j .stage ≡ Stage.Filling (aboveOf (j .stage)) (lastOf (j .stage)) (liveOf (j .stage))
-  fills-stage m e = go (j .stage) m (fits-stage j f)
-    where
-      go : (s : Stage) → markOf s ≡ 0 → stageFits (shapeOf (j .width) (j .height)) (j .units) s ≡ true → s ≡ Stage.Filling (aboveOf s) (lastOf s) (liveOf s)
-      go (Stage.Filling above last live) z q = refl
-      go (Stage.Choosing above last live) z q = absurd (true≢false (sym e ∙ not-true (isFill (shapeOf (j .width) (j .height) .plan (j .units))) q))
-      go (Stage.Finished above last score) z q = absurd (omega arith)
-      go Stage.Infeasible z q = absurd (omega arith)
+  -- so the plan's task is due
+  pub due-running : markOf (j .stage) ≡ 0 → taskDue j ≡ some (shapeOf (j .width) (j .height) .plan (j .units))
+  due-running m = due-by j (fits-size .0) (fits-size .1) m (fits-until m)
 
-  pub chooses-stage : markOf (j .stage) ≡ 0 → isFill (shapeOf (j .width) (j .height) .plan (j .units)) ≡ false
-      → j .stage ≡ Stage.Choosing (aboveOf (j .stage)) (lastOf (j .stage)) (liveOf (j .stage))
-  chooses-stage m e = go (j .stage) m (fits-stage j f)
-    where
-      go : (s : Stage) → markOf s ≡ 0 → stageFits (shapeOf (j .width) (j .height)) (j .units) s ≡ true → s ≡ Stage.Choosing (aboveOf s) (lastOf s) (liveOf s)
-      go (Stage.Filling above last live) z q = absurd (true≢false (sym q ∙ e))
-      go (Stage.Choosing above last live) z q = refl
-      go (Stage.Finished above last score) z q = absurd (omega arith)
-      go Stage.Infeasible z q = absurd (omega arith)
+  -- and without a task it has ended
+  pub due-none : taskDue j ≡ none → markOf (j .stage) ≡ 0 → ⊥
+  due-none e m = let z : _≡_ {A = ℕ} 0 1 = none-some (sym e ∙ due-running m) in omega arith
 
-  pub fits-filling : {above last live : ℕ} → j .stage ≡ Stage.Filling above last live → Early (j .width) (j .height) (j .units) above last live
-  fits-filling e = rw e at (fits-at j f .stage)
+  -- ---- the job after its unit
+  module _ (m : markOf (j .stage) ≡ 0) where
+    after-due : {o : Task} → shapeOf (j .width) (j .height) .plan (j .units) ≡ o → (chosen : Chosen) → afterUnit j chosen ≡ afterTask (some o) j chosen
+    unfolding afterUnit
+    after-due p chosen = ap (λ (o : Option Task). afterTask o j chosen) (due-running m ∙ ap some p)
 
-  pub fits-choosing : {above last live : ℕ} → j .stage ≡ Stage.Choosing above last live → Choosing (j .width) (j .height) (j .units) above last live
-  fits-choosing e = rw e at (fits-at j f .stage)
+    pub after-entry : {k source target i : ℕ} → shapeOf (j .width) (j .height) .plan (j .units) ≡ fill k source target i → (chosen : Chosen)
+        → afterUnit j chosen ≡ jobWith j (afterEntry (numbersIn (numbersOf j)))
+    after-entry p chosen = after-due p chosen
 
-  pub fits-live : {above last live : ℕ} → j .stage ≡ Stage.Choosing above last live → live ≤ 600
-  fits-live e =
-      let F = fits-choosing e in
-      let k : j .units - tableSize (j .width) (j .height) ≤ 60 = omega (arith, F .until, F .from, fits-size .1) in
-      omega (arith, F .rows .few, mul-le-mul (fits-size .0) k)
+    pub after-row : {r source : ℕ} → shapeOf (j .width) (j .height) .plan (j .units) ≡ row r source → (c x : ℕ) → c < 2 ^ j .width → x ≤ j .width
+        → afterUnit j (Chosen.Row c x) ≡ jobWith j (afterRow (j .height) r c (x + liveOf (j .stage)) (numbersIn (numbersOf j)))
+    after-row p c x l b =
+        after-due p (Chosen.Row c x) ∙ rw (lt-ltb c (2 ^ j .width) l, le-leb x (j .width) b, le-leb (liveOf (j .stage)) (j .width * j .height) fits-live)
 
-  -- ---- the job that is handed back
-  pub next-is : (s : Stage) → j .stage ≡ s → (done d : Done) → done ≡ d → nextJob j done ≡ doneIn j s d
-  unfolding nextJob
-  next-is s e done d p = rw (f, e, p)
-
-  pub next-entry : {above last live : ℕ} → j .stage ≡ Stage.Filling above last live → nextJob j Done.Entry ≡ afterEntry (j .rule) (j .width) (j .height) (j .units) above last live
-  next-entry {above} {last} {live} e = next-is (Stage.Filling above last live) e Done.Entry Done.Entry refl
-
-  module _ {above last live : ℕ} (e : j .stage ≡ Stage.Choosing above last live) where
-    pub next-row : (r : ℕ) → r ≡ j .units - tableSize (j .width) (j .height) → (c n : ℕ) → c < 2 ^ j .width → n ≤ j .width
-        → nextJob j (Done.Row c n) ≡ afterRow (j .rule) (j .width) (j .height) (j .units) r last c (live + n)
-    next-row r q c n l m =
-        next-is (Stage.Choosing above last live) e (Done.Row c n) (Done.Row c n) refl ∙ rw (lt-ltb c (2 ^ j .width) l, le-leb n (j .width) m, q)
-
-    pub next-none : j .units - tableSize (j .width) (j .height) ≡ 0 → nextJob j Done.NoRow ≡ afterNone (j .rule) (j .width) (j .height) (j .units)
-    next-none q =
-        next-is (Stage.Choosing above last live) e Done.NoRow Done.NoRow refl ∙ rw (eq-eqb (j .units - tableSize (j .width) (j .height)) 0 q)
+    pub after-none : {source : ℕ} → shapeOf (j .width) (j .height) .plan (j .units) ≡ row 0 source
+        → afterUnit j Chosen.Nothing ≡ jobWith j (afterNone (numbersIn (numbersOf j)))
+    after-none p = after-due p Chosen.Nothing

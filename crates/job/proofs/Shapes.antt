@@ -8,6 +8,7 @@ use native.Mathlib.Omega.{arith}
 use borrow.Author.Tests.{ltb-true, ltb-false, lt-ltb, le-ltb, le-leb, lt-leb}
 use lib.Dec.{ltb, leb}
 use lib.Pow.{pow-pos}
+use Rattle.board.specs.Boards.{maxWidth}
 use Rattle.board.specs.Checks.{tableSize}
 use Rattle.board.proofs.Powers.{four-two, four-pos, four-le, table-four}
 use Rattle.elimination.specs.Task.{Task, fill, row, isFill}
@@ -91,7 +92,7 @@ task-row w h u q e l =
     let f : q ≡ 2 ^ w * 2 ^ w = e ∙ table-four w 1 ∙ omega arith in
     rw f (sym (ap (shapeOf w h .plan) d ∙ plan-row h (2 ^ w * 2 ^ w) (u - tableSize w h)))
 
-pub layer-le : (w q : ℕ) → q ≡ tableSize w 1 → w ≤ 10 → q ≤ 1048576
+pub layer-le : (w q : ℕ) → q ≡ tableSize w 1 → w ≤ maxWidth → q ≤ 1048576
 unfolding tableSize
 layer-le w q e l = omega (arith, four-le l)
 

@@ -6,9 +6,8 @@ use mathlib.Core.List.{List}
 use Prim.Native.Nat.{ℕ}
 use Rattle.board.specs.Answers.{gives}
 use Rattle.rule.specs.declared.Rule.{Rule}
-use Rattle.job.specs.Jobs.{shapeOf, markOf, taskOf, numbersOf, jobSays, jobFits, jobOf, start, openRule, pauseRule, resumeRule, openedSays, pausedSays, resumedSays}
+use Rattle.job.specs.Jobs.{numbersOf, jobSays, jobFits, jobOf, start, openRule, pauseRule, resumeRule, openedSays, pausedSays, resumedSays}
 use Rattle.job.specs.declared.Job.{Job}
-use Rattle.job.specs.declared.Task.{Task}
 use Rattle.job.specs.declared.Checkpoint.{Checkpoint}
 use Rattle.job.specs.declared.Opened.{Opened}
 use Rattle.job.specs.declared.Paused.{Paused}
@@ -27,10 +26,6 @@ pub record Pauses (j : Job) (r : Paused) : Type 0 where
 pub record Resumes (t : Checkpoint) (r : Resumed) : Type 0 where
   pub says : resumedSays r ≡ resumeRule t
   pub job : (j : Job) → r ≡ Resumed.Ready j → j ≡ jobOf t
-
--- the task of a running job's next unit is its shape's
-pub record Does (j : Job) (r : Task) : Type 0 where
-  pub is : jobFits j ≡ true → markOf (j .stage) ≡ 0 → taskOf r ≡ shapeOf (j .width) (j .height) .plan (j .units)
 
 -- THE JOB RESUMED EQUALS THE ONE PAUSED: of what the two calls hand back, for every job that pausing takes
 unfoldable pub RoundTrip : Type 0

@@ -3,15 +3,16 @@
 -- Assumes nothing.
 use mathlib.Core.Bool.{Bool, true, cond, not, _&&_}
 use mathlib.Core.List.{List, [], _∷_}
-use Prim.Native.Nat.{ℕ, _+_, _*_, _-_, _^_}
+use mathlib.Core.Option.{Option, none, some}
+use Prim.Native.Nat.{ℕ, zero, suc, _+_, _*_, _-_, _^_}
 use lib.Dec.{eqb, leb, ltb}
 use Rattle.board.specs.Answers.{Answer, gives, refusalSays, _then_, refuseUnless}
-use Rattle.board.specs.Boards.{among}
+use Rattle.board.specs.Boards.{among, maxWidth, maxHeight}
 use Rattle.board.specs.Checks.{givensCheck, tableSize}
 use Rattle.elimination.specs.Task.{isFill}
 use Rattle.elimination.specs.Task as Elimination
 use Rattle.elimination.specs.FillThenChoose.{plan}
-use Rattle.elimination.specs.Shape.{Shape, Numbers, numbersFit}
+use Rattle.elimination.specs.Shape.{Shape, Numbers, numbersFit, afterEntry, afterRow, afterNone}
 use Rattle.rule.specs.Rule.{ruleFits, gridCheck}
 use Rattle.rule.specs.declared.Rule.{Rule}
 use Rattle.job.specs.declared.Stage.{Stage}
@@ -20,7 +21,7 @@ use Rattle.job.specs.declared.Checkpoint.{Checkpoint}
 use Rattle.job.specs.declared.Opened.{Opened}
 use Rattle.job.specs.declared.Paused.{Paused}
 use Rattle.job.specs.declared.Resumed.{Resumed}
-use Rattle.job.specs.declared.Done.{Done}
+use Rattle.job.specs.declared.Chosen.{Chosen}
 use Rattle.job.specs.declared.Task as Task
 
 -- ---- lengths
@@ -103,8 +104,8 @@ numbersIn t = record { units = t .units; above = t .above; last = t .last; live 
 -- the numbers that resuming takes: width and height fit, the rule isn't barred, and the others fit the job's shape
 unfoldable pub checkpointFits : Checkpoint → Bool
 checkpointFits t =
-    among 10 (t .width) &&
-    among 60 (t .height) &&
+    among maxWidth (t .width) &&
+    among maxHeight (t .height) &&
     ruleFits (ruleOf t) &&
     numbersFit (shapeOf (t .width) (t .height)) (numbersIn t)
 
@@ -152,50 +153,52 @@ pauseRule j = refuseUnless (jobFits j) 7 then gives (jobSays j)
 unfoldable pub resumeRule : Checkpoint → Answer
 resumeRule t = refuseUnless (checkpointFits t) 7 then gives (checkpointSays t)
 
--- ---- a unit's task, as row elimination's
-abbrev pub taskOf : Task.Task → Elimination.Task
-taskOf (Task.Task.Fill after source target entry) = Elimination.fill after source target entry
-taskOf (Task.Task.Choose above source) = Elimination.row above source
-
--- ---- the job after a unit
--- the stage after u units once k rows are chosen, the last two of them `above` and `last`, worth n
-abbrev pub chosenTo : Shape → ℕ → ℕ → ℕ → ℕ → ℕ → Stage
-chosenTo S u k above last n = cond (ltb k (S .rows)) (runningAt S u above last n) (Stage.Finished above last n)
-
--- after unit u: its entry is written; row c is chosen below `last` with r rows above it, and all are worth n; no row can be chosen as row 1
-abbrev pub afterEntry : Rule → ℕ → ℕ → ℕ → ℕ → ℕ → ℕ → Job
-afterEntry rule w h u above last live = record { rule = rule; width = w; height = h; units = u + 1; stage = runningAt (shapeOf w h) (u + 1) above last live }
-
-abbrev pub afterRow : Rule → ℕ → ℕ → ℕ → ℕ → ℕ → ℕ → ℕ → Job
-afterRow rule w h u r last c n = record { rule = rule; width = w; height = h; units = u + 1; stage = chosenTo (shapeOf w h) (u + 1) (r + 1) last c n }
-
-abbrev pub afterNone : Rule → ℕ → ℕ → ℕ → Job
-afterNone rule w h u = record { rule = rule; width = w; height = h; units = u + 1; stage = Stage.Infeasible }
-
--- The job after what its unit has done. It is the same job where its unit can't have done this: only a filling job writes an entry, only a
--- choosing one chooses, a row is one of the shape's codes and earns at most what a row is worth, and only as row 1 may there be none.
-abbrev pub rowDone : Job → ℕ → ℕ → ℕ → ℕ → Job
-rowDone j last live row worth =
+-- ---- a unit
+-- The task of the next unit: there is none where the job has ended, its units are spent, or it is no grid's.
+unfoldable pub taskDue : Job → Option Elimination.Task
+taskDue j =
     let S = shapeOf (j .width) (j .height) in
-    cond (ltb row (S .codes) && leb worth (S .most))
-    (afterRow (j .rule) (j .width) (j .height) (j .units) (S .chosen (j .units)) last row (live + worth)) j
+    cond (leb (j .width) maxWidth && leb (j .height) maxHeight && eqb (markOf (j .stage)) 0 && ltb (j .units) (S .boardLength)) (some (S .plan (j .units))) none
 
-abbrev pub noneDone : Job → Job
-noneDone j = cond (eqb (shapeOf (j .width) (j .height) .chosen (j .units)) 0) (afterNone (j .rule) (j .width) (j .height) (j .units)) j
+abbrev pub taskOf : Task.Task → Option Elimination.Task
+taskOf (Task.Task.Fill after source target entry) = some (Elimination.fill after source target entry)
+taskOf (Task.Task.Choose row source) = some (Elimination.row row source)
+taskOf Task.Task.Nothing = none
 
-abbrev pub doneIn : Job → Stage → Done → Job
-doneIn j (Stage.Filling above last live) Done.Entry = afterEntry (j .rule) (j .width) (j .height) (j .units) above last live
-doneIn j (Stage.Filling above last live) (Done.Row row worth) = j
-doneIn j (Stage.Filling above last live) Done.NoRow = j
-doneIn j (Stage.Choosing above last live) Done.Entry = j
-doneIn j (Stage.Choosing above last live) (Done.Row row worth) = rowDone j last live row worth
-doneIn j (Stage.Choosing above last live) Done.NoRow = noneDone j
-doneIn j (Stage.Finished above last score) done = j
-doneIn j Stage.Infeasible done = j
+-- the job with these numbers in place of those that its units change
+abbrev pub numbersWith : Job → Numbers → Checkpoint
+numbersWith j n = record {
+  width = j .width;
+  height = j .height;
+  units = n .units;
+  above = n .above;
+  last = n .last;
+  live = n .live;
+  mark = n .mark;
+  births = j .rule .births;
+  survivals = j .rule .survivals;
+}
 
--- a job that doesn't fit is handed back too
-unfoldable pub nextJob : Job → Done → Job
-nextJob j done = cond (jobFits j) (doneIn j (j .stage) done) j
+abbrev pub jobWith : Job → Numbers → Job
+jobWith j n = jobOf (numbersWith j n)
+
+-- After the choice of the row with r rows above it. A row that is none of the shape's codes, or worth more than a row can be, leaves the job as it
+-- is, and so does a job whose live cells are more than its rows can have. Where no row can be chosen the job ends at row 1, and stands at a later row.
+abbrev pub afterChoice : Shape → ℕ → Job → Chosen → Job
+afterChoice S r j (Chosen.Row row worth) =
+    cond (ltb row (S .codes) && leb worth (S .most) && leb (liveOf (j .stage)) (S .most * S .rows))
+    (jobWith j (afterRow (S .rows) r row (worth + liveOf (j .stage)) (numbersIn (numbersOf j)))) j
+afterChoice S zero j Chosen.Nothing = jobWith j (afterNone (numbersIn (numbersOf j)))
+afterChoice S (suc r) j Chosen.Nothing = j
+
+-- The job after its unit: by its task, and where that chooses a row by what is chosen. Without a task it stays as it is.
+abbrev pub afterTask : Option Elimination.Task → Job → Chosen → Job
+afterTask none j chosen = j
+afterTask (some (Elimination.fill k source target entry)) j chosen = jobWith j (afterEntry (numbersIn (numbersOf j)))
+afterTask (some (Elimination.row r source)) j chosen = afterChoice (shapeOf (j .width) (j .height)) r j chosen
+
+unfoldable pub afterUnit : Job → Chosen → Job
+afterUnit j chosen = afterTask (taskDue j) j chosen
 
 -- ---- the paper's number and values of each answer
 abbrev pub openedSays : Opened → Answer

@@ -9,8 +9,8 @@ mod units;
 
 ghost use mathlib.Core.Path.{_≡_};
 ghost use Rattle.board.specs.Answers.{checkSays};
-ghost use Rattle.job.specs.Jobs.{readCheck, numbersOf, nextJob};
-ghost use Rattle.job.specs.Calls.{Opens, Pauses, Resumes, Does};
+ghost use Rattle.job.specs.Jobs.{readCheck, numbersOf, taskDue, taskOf, afterUnit};
+ghost use Rattle.job.specs.Calls.{Opens, Pauses, Resumes};
 
 // What a job does next, with that stage's numbers: the last two rows chosen, and the live cells so far that were free.
 pub enum Stage {
@@ -70,7 +70,7 @@ pub enum Resumed {
     Refused(Refusal),
 }
 
-// What a unit of a job is to do.
+// What the next unit of a job is to do.
 pub enum Task {
     // Fill an entry of the layer that starts at `target` and has `after` rows after it, by the layer that starts at `source`.
     Fill {
@@ -84,15 +84,14 @@ pub enum Task {
         row: usize,
         source: usize,
     },
+    Nothing,
 }
 
-// What a unit of a job has done.
-pub enum Done {
-    Entry,
+// What a unit that chooses comes to.
+pub enum Chosen {
     // A row, and what it earns.
     Row { row: usize, worth: usize },
-    // No row can be chosen as row 1.
-    NoRow,
+    Nothing,
 }
 
 // A job at unit 0 under a rule for a grid of givens: w × h marks, 0 free, 1 given dead, 2 given live. Refusals 1, 2, 13, 3, 4.
@@ -133,15 +132,7 @@ impl Checkpoint {
         if !numbers::checkpoint_fits(self) {
             return Resumed::Refused(Refusal::Checkpoint);
         }
-        let rule = numbers::rule_of(self);
-        let stage = numbers::stage_of(self);
-        Resumed::Ready(Job {
-            rule,
-            width: self.width,
-            height: self.height,
-            units: self.units,
-            stage,
-        })
+        Resumed::Ready(numbers::job_of(self))
     }
 }
 
@@ -163,59 +154,46 @@ impl Job {
         numbers::numbers_of(self)
     }
 
-    // What the next unit is to do. Of a job that has ended or doesn't fit, the answer means nothing.
+    // What the next unit is to do: nothing where the job has ended, its units are spent, or it is no grid's.
     pub fn task(self) -> Task
-        ensures { λ r. ⌜ Does self r ⌝ }
+        ensures { λ r. ⌜ taskOf r ≡ taskDue self ⌝ }
     {
         let w = self.width;
         let h = self.height;
+        if board::MAX_WIDTH < w {
+            return Task::Nothing;
+        }
+        if board::MAX_HEIGHT < h {
+            return Task::Nothing;
+        }
+        if numbers::numbers_of(self).mark != 0 {
+            return Task::Nothing;
+        }
         let units = self.units;
-        if 10 < w {
-            return Task::Choose { row: 0, source: 0 };
-        }
-        if 60 < h {
-            return Task::Choose { row: 0, source: 0 };
-        }
         let entries = numbers::table_size(w, h);
         if units < entries {
             return units::fill_task(w, h, units);
         }
-        if h <= units - entries {
-            return Task::Choose { row: 0, source: 0 };
+        if units < entries + h {
+            return units::row_task(w, h, units);
         }
-        units::row_task(w, h, units)
+        Task::Nothing
     }
 
-    // The job after its unit. A job that doesn't fit, or whose unit can't have done this, is handed back as it is.
-    pub fn after(self, done: Done) -> Job
-        ensures { λ r. ⌜ r ≡ nextJob self done ⌝ }
+    // The job after its unit: by its task, and where that chooses a row by what is chosen. Without a task it stays as it is.
+    pub fn after(self, chosen: Chosen) -> Job
+        ensures { λ r. ⌜ r ≡ afterUnit self chosen ⌝ }
     {
         let job = self;
-        if !numbers::job_fits(job) {
-            return job;
-        }
-        let stage = job.stage;
-        match stage {
-            Stage::Filling { above, last, live } => match done {
-                Done::Entry => units::after_entry(job, above, last, live),
-                Done::Row { row: _, worth: _ } => job,
-                Done::NoRow => job,
-            },
-            Stage::Choosing {
-                above: _,
-                last,
-                live,
-            } => match done {
-                Done::Entry => job,
-                Done::Row { row, worth } => units::after_row(job, last, live, row, worth),
-                Done::NoRow => units::after_none(job),
-            },
-            Stage::Finished {
-                above: _,
-                last: _,
-                score: _,
-            } => job,
-            Stage::Infeasible => job,
+        match job.task() {
+            Task::Fill {
+                after: _,
+                source: _,
+                target: _,
+                entry: _,
+            } => units::after_entry(job),
+            Task::Choose { row, source: _ } => units::after_choice(job, row, chosen),
+            Task::Nothing => job,
         }
     }
 }

@@ -5,14 +5,15 @@ use crate::Stage;
 use board::Check;
 use rule::Rule;
 ghost use mathlib.Core.Path.{_≡_};
+ghost use Rattle.board.specs.Boards.{maxWidth, maxHeight};
 ghost use Prim.Native.Nat.{_≤_};
 ghost use Rattle.board.specs.Checks.{tableSize};
 ghost use Rattle.elimination.specs.Shape.{unitsFit, rowsChosen, rowsFit};
-ghost use Rattle.job.specs.Jobs.{shapeOf, ruleOf, checkpointFits, stageFits, jobFits, numbersOf, stageOf};
+ghost use Rattle.job.specs.Jobs.{shapeOf, aboveOf, lastOf, liveOf, markOf, ruleOf, checkpointFits, stageFits, jobFits, numbersOf, stageOf, jobOf};
 
 // The entries of the table, h × 4^w.
 pub fn table_size(w: usize, h: usize) -> usize
-    requires { ⌜ (w ≤ 10) × (h ≤ 60) ⌝ }
+    requires { ⌜ (w ≤ maxWidth) × (h ≤ maxHeight) ⌝ }
     ensures { λ r. ⌜ (r ≡ tableSize w h) × (r ≤ 62914560) ⌝ }
 {
     h << (2 * w)
@@ -20,7 +21,7 @@ pub fn table_size(w: usize, h: usize) -> usize
 
 // Whether the units fit the end mark.
 fn units_fit(w: usize, h: usize, units: usize, mark: usize) -> bool
-    requires { ⌜ (w ≤ 10) × (h ≤ 60) ⌝ }
+    requires { ⌜ (w ≤ maxWidth) × (h ≤ maxHeight) ⌝ }
     ensures { λ r. ⌜ r ≡ unitsFit (shapeOf w h) units mark ⌝ }
 {
     let entries = table_size(w, h);
@@ -34,7 +35,7 @@ fn units_fit(w: usize, h: usize, units: usize, mark: usize) -> bool
 
 // The rows chosen.
 fn rows_chosen(w: usize, h: usize, units: usize, mark: usize) -> usize
-    requires { ⌜ (w ≤ 10) × (h ≤ 60) ⌝ }
+    requires { ⌜ (w ≤ maxWidth) × (h ≤ maxHeight) ⌝ }
     ensures { λ r. ⌜ r ≡ rowsChosen (shapeOf w h) units mark ⌝ }
 {
     if mark == 2 {
@@ -46,7 +47,7 @@ fn rows_chosen(w: usize, h: usize, units: usize, mark: usize) -> usize
 
 // Whether the rows and the live cells fit k rows chosen.
 fn rows_fit(w: usize, k: usize, above: usize, last: usize, live: usize) -> bool
-    requires { ⌜ (w ≤ 10) × (k ≤ 60) ⌝ }
+    requires { ⌜ (w ≤ maxWidth) × (k ≤ maxHeight) ⌝ }
     ensures { λ r. ⌜ r ≡ rowsFit w k above last live ⌝ }
 {
     if w * k < live {
@@ -61,7 +62,7 @@ fn rows_fit(w: usize, k: usize, above: usize, last: usize, live: usize) -> bool
 }
 
 // The rule of a paused job.
-pub fn rule_of(t: Checkpoint) -> Rule
+fn rule_of(t: Checkpoint) -> Rule
     ensures { λ r. ⌜ r ≡ ruleOf t ⌝ }
 {
     Rule {
@@ -94,7 +95,7 @@ pub fn checkpoint_fits(t: Checkpoint) -> bool
 
 // Whether a running job's stage is the task of its next unit: it fills while its units are below h × 4^w, and chooses from there on.
 fn stage_fits(w: usize, h: usize, units: usize, stage: Stage) -> bool
-    requires { ⌜ (w ≤ 10) × (h ≤ 60) ⌝ }
+    requires { ⌜ (w ≤ maxWidth) × (h ≤ maxHeight) ⌝ }
     ensures { λ r. ⌜ r ≡ stageFits (shapeOf w h) units stage ⌝ }
 {
     let entries = table_size(w, h);
@@ -129,67 +130,68 @@ pub fn job_fits(job: Job) -> bool
     stage_fits(job.width, job.height, job.units, stage)
 }
 
-// The nine numbers of a job.
-pub fn numbers_of(job: Job) -> Checkpoint
-    ensures { λ r. ⌜ r ≡ numbersOf job ⌝ }
+// The numbers that a stage carries.
+struct Kept {
+    above: usize,
+    last: usize,
+    live: usize,
+    mark: usize,
+}
+
+// Row above, last row, live cells so far and end mark of a stage.
+fn kept_in(stage: Stage) -> Kept
+    ensures { λ r. ⌜ (r .above ≡ aboveOf stage) × (r .last ≡ lastOf stage) × (r .live ≡ liveOf stage) × (r .mark ≡ markOf stage) ⌝ }
 {
-    let births = job.rule.births;
-    let survivals = job.rule.survivals;
-    let width = job.width;
-    let height = job.height;
-    let units = job.units;
-    let stage = job.stage;
     match stage {
-        Stage::Filling { above, last, live } => Checkpoint {
-            width,
-            height,
-            units,
+        Stage::Filling { above, last, live } => Kept {
             above,
             last,
             live,
             mark: 0,
-            births,
-            survivals,
         },
-        Stage::Choosing { above, last, live } => Checkpoint {
-            width,
-            height,
-            units,
+        Stage::Choosing { above, last, live } => Kept {
             above,
             last,
             live,
             mark: 0,
-            births,
-            survivals,
         },
-        Stage::Finished { above, last, score } => Checkpoint {
-            width,
-            height,
-            units,
+        Stage::Finished { above, last, score } => Kept {
             above,
             last,
             live: score,
             mark: 1,
-            births,
-            survivals,
         },
-        Stage::Infeasible => Checkpoint {
-            width,
-            height,
-            units,
+        Stage::Infeasible => Kept {
             above: 0,
             last: 0,
             live: 0,
             mark: 2,
-            births,
-            survivals,
         },
     }
 }
 
+// The nine numbers of a job.
+pub fn numbers_of(job: Job) -> Checkpoint
+    ensures { λ r. ⌜ r ≡ numbersOf job ⌝ }
+{
+    let stage = job.stage;
+    let c = kept_in(stage);
+    Checkpoint {
+        width: job.width,
+        height: job.height,
+        units: job.units,
+        above: c.above,
+        last: c.last,
+        live: c.live,
+        mark: c.mark,
+        births: job.rule.births,
+        survivals: job.rule.survivals,
+    }
+}
+
 // The stage that numbers give.
-pub fn stage_of(t: Checkpoint) -> Stage
-    requires { ⌜ (t .width ≤ 10) × (t .height ≤ 60) ⌝ }
+fn stage_of(t: Checkpoint) -> Stage
+    requires { ⌜ (t .width ≤ maxWidth) × (t .height ≤ maxHeight) ⌝ }
     ensures { λ r. ⌜ r ≡ stageOf t ⌝ }
 {
     let mark = t.mark;
@@ -215,5 +217,21 @@ pub fn stage_of(t: Checkpoint) -> Stage
                 }
             }
         }
+    }
+}
+
+// The job of nine numbers.
+pub fn job_of(t: Checkpoint) -> Job
+    requires { ⌜ (t .width ≤ maxWidth) × (t .height ≤ maxHeight) ⌝ }
+    ensures { λ r. ⌜ r ≡ jobOf t ⌝ }
+{
+    let rule = rule_of(t);
+    let stage = stage_of(t);
+    Job {
+        rule,
+        width: t.width,
+        height: t.height,
+        units: t.units,
+        stage,
     }
 }

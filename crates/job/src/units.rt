@@ -1,17 +1,24 @@
 // What a unit is to do, and the job after it, by what it has done.
+use crate::Checkpoint;
+use crate::Chosen;
 use crate::Job;
-use crate::Stage;
 use crate::Task;
 use crate::numbers;
 ghost use mathlib.Core.Path.{_≡_};
-ghost use Prim.Native.Nat.{_+_, _≤_, _<_};
+ghost use Rattle.board.specs.Boards.{maxWidth, maxHeight};
+ghost use mathlib.Core.Bool.{cond};
+ghost use mathlib.Core.Option.{some};
+ghost use lib.Dec.{ltb};
+ghost use Prim.Native.Nat.{suc, _+_, _≤_, _<_};
 ghost use Rattle.board.specs.Checks.{tableSize};
-ghost use Rattle.job.specs.Jobs.{shapeOf, taskOf, afterEntry, rowDone, noneDone};
+ghost use Rattle.elimination.specs.Shape.{afterEntry, afterNone};
+ghost use Rattle.job.specs.Jobs.{boardLength, shapeOf, taskOf, numbersIn, numbersOf, jobWith, afterChoice};
+ghost use Rattle.job.specs.declared.Chosen.{Chosen};
 
 // The task of a unit that fills.
 pub fn fill_task(w: usize, h: usize, units: usize) -> Task
-    requires { ⌜ (w ≤ 10) × (h ≤ 60) × (units < tableSize w h) ⌝ }
-    ensures { λ r. ⌜ taskOf r ≡ shapeOf w h .plan units ⌝ }
+    requires { ⌜ (w ≤ maxWidth) × (h ≤ maxHeight) × (units < tableSize w h) ⌝ }
+    ensures { λ r. ⌜ taskOf r ≡ some (shapeOf w h .plan units) ⌝ }
 {
     let q = numbers::table_size(w, 1);
     let after = units / q;
@@ -28,8 +35,8 @@ pub fn fill_task(w: usize, h: usize, units: usize) -> Task
 
 // The task of a unit that chooses.
 pub fn row_task(w: usize, h: usize, units: usize) -> Task
-    requires { ⌜ (w ≤ 10) × (h ≤ 60) × (tableSize w h ≤ units) × (units < tableSize w h + h) ⌝ }
-    ensures { λ r. ⌜ taskOf r ≡ shapeOf w h .plan units ⌝ }
+    requires { ⌜ (w ≤ maxWidth) × (h ≤ maxHeight) × (tableSize w h ≤ units) × (units < tableSize w h + h) ⌝ }
+    ensures { λ r. ⌜ taskOf r ≡ some (shapeOf w h .plan units) ⌝ }
 {
     let row = units - numbers::table_size(w, h);
     let source = row * numbers::table_size(w, 1);
@@ -37,84 +44,77 @@ pub fn row_task(w: usize, h: usize, units: usize) -> Task
 }
 
 // After an entry.
-pub fn after_entry(job: Job, above: usize, last: usize, live: usize) -> Job
-    requires { ⌜ (job .width ≤ 10) × (job .height ≤ 60) × (job .units < tableSize (job .width) (job .height)) ⌝ }
-    ensures { λ r. ⌜ r ≡ afterEntry (job .rule) (job .width) (job .height) (job .units) above last live ⌝ }
+pub fn after_entry(job: Job) -> Job
+    requires { ⌜ (job .width ≤ maxWidth) × (job .height ≤ maxHeight) × (job .units < boardLength (job .width) (job .height)) ⌝ }
+    ensures { λ r. ⌜ r ≡ jobWith job (afterEntry (numbersIn (numbersOf job))) ⌝ }
 {
-    let rule = job.rule;
-    let width = job.width;
-    let height = job.height;
-    let entries = numbers::table_size(width, height);
-    let units = job.units + 1; // one entry
-    let stage = if units < entries {
-        Stage::Filling { above, last, live }
-    } else {
-        Stage::Choosing { above, last, live }
-    };
-    Job {
-        rule,
-        width,
-        height,
-        units,
-        stage,
+    let mut t = numbers::numbers_of(job);
+    t.units = t.units + 1; // one entry
+    t.mark = 0;
+    numbers::job_of(t)
+}
+
+// After the choice of the row with r rows above it.
+pub fn after_choice(job: Job, r: usize, chosen: Chosen) -> Job
+    requires { ⌜ (job .width ≤ maxWidth) × (job .height ≤ maxHeight) × (job .units < boardLength (job .width) (job .height)) × (r ≤ job .units) ⌝ }
+    ensures { λ x. ⌜ x ≡ afterChoice (shapeOf (job .width) (job .height)) r job chosen ⌝ }
+{
+    match chosen {
+        Chosen::Row { row, worth } => after_row(job, r, row, worth),
+        Chosen::Nothing => {
+            if r != 0 {
+                return job;
+            }
+            after_none(job)
+        }
     }
 }
 
-// After a row below `last`, with the live cells so far.
-pub fn after_row(job: Job, last: usize, live: usize, row: usize, worth: usize) -> Job
-    requires { ⌜ (job .width ≤ 10) × (job .height ≤ 60) × (live ≤ 600) ⌝ }
-    requires { ⌜ (tableSize (job .width) (job .height) ≤ job .units) × (job .units < tableSize (job .width) (job .height) + job .height) ⌝ }
-    ensures { λ r. ⌜ r ≡ rowDone job last live row worth ⌝ }
+// After a row.
+fn after_row(job: Job, r: usize, row: usize, worth: usize) -> Job
+    requires { ⌜ (job .width ≤ maxWidth) × (job .height ≤ maxHeight) × (job .units < boardLength (job .width) (job .height)) × (r ≤ job .units) ⌝ }
+    ensures { λ x. ⌜ x ≡ afterChoice (shapeOf (job .width) (job .height)) r job (Chosen.Row row worth) ⌝ }
 {
-    let width = job.width;
-    if row >> width != 0 {
+    let w = job.width;
+    let h = job.height;
+    let t = numbers::numbers_of(job);
+    if row >> w != 0 {
         return job;
     }
-    if width < worth {
+    if w < worth {
         return job;
     }
-    let rule = job.rule;
-    let height = job.height;
-    let rows = job.units - numbers::table_size(width, height);
-    let n = live + worth;
-    let stage = if rows + 1 < height {
-        Stage::Choosing {
-            above: last,
-            last: row,
-            live: n,
-        }
-    } else {
-        Stage::Finished {
-            above: last,
-            last: row,
-            score: n,
-        }
-    };
-    Job {
-        rule,
-        width,
-        height,
-        units: job.units + 1, // one row
-        stage,
+    if w * h < t.live {
+        return job;
     }
+    numbers::job_of(Checkpoint {
+        width: w,
+        height: h,
+        units: t.units + 1, // one row
+        above: t.last,
+        last: row,
+        live: worth + t.live,
+        mark: mark_after(h, r),
+        births: t.births,
+        survivals: t.survivals,
+    })
 }
 
-// Where no row can be chosen.
-pub fn after_none(job: Job) -> Job
-    requires { ⌜ (job .width ≤ 10) × (job .height ≤ 60) × (tableSize (job .width) (job .height) ≤ job .units) ⌝ }
-    ensures { λ r. ⌜ r ≡ noneDone job ⌝ }
+// The end mark after the row of h that has r rows above it.
+fn mark_after(h: usize, r: usize) -> usize
+    requires { ⌜ r < 4294967296 ⌝ }
+    ensures { λ x. ⌜ x ≡ cond (ltb (suc r) h) 0 1 ⌝ }
 {
-    let width = job.width;
-    let height = job.height;
-    if job.units != numbers::table_size(width, height) {
-        return job;
-    }
-    let rule = job.rule;
-    Job {
-        rule,
-        width,
-        height,
-        units: job.units + 1, // spent, with nothing written
-        stage: Stage::Infeasible,
-    }
+    if r + 1 < h { 0 } else { 1 }
+}
+
+// Where no row can be chosen as row 1.
+fn after_none(job: Job) -> Job
+    requires { ⌜ (job .width ≤ maxWidth) × (job .height ≤ maxHeight) × (job .units < boardLength (job .width) (job .height)) ⌝ }
+    ensures { λ r. ⌜ r ≡ jobWith job (afterNone (numbersIn (numbersOf job))) ⌝ }
+{
+    let mut t = numbers::numbers_of(job);
+    t.units = t.units + 1; // spent, with nothing written
+    t.mark = 2;
+    numbers::job_of(t)
 }

@@ -5,7 +5,7 @@ use mathlib.Core.Bool.{Bool, true, false, cond, _&&_}
 use mathlib.Core.List.{List}
 use Prim.Native.Nat.{ℕ, suc, _+_, _-_, _*_, _^_, _<_, _≤_}
 use native.Mathlib.Omega.{arith}
-use borrow.Author.Tests.{le-leb, lt-leb, lt-ltb, le-ltb, eq-eqb, ne-eqb, leb-true, leb-false, ltb-true, eqb-true, eqb-false}
+use borrow.Author.Tests.{le-leb, lt-leb, lt-ltb, le-ltb, eq-eqb, ne-eqb, leb-true, leb-false, ltb-true, ltb-false, eqb-true, eqb-false}
 use lib.Dec.{eqb, leb, ltb}
 use lib.ListN.{length}
 use Rattle.board.proofs.Tests.{and-left, and-right}
@@ -13,9 +13,10 @@ use Rattle.elimination.specs.Candidates.{Choice, nothing, chosen}
 use Rattle.elimination.specs.Kind.{choose}
 use Rattle.elimination.specs.Table.{reads, fillEntry}
 use Rattle.score_table.specs.Rows.{rowWorth}
-use Rattle.score_table.specs.ScoreTable.{kindOf}
+use Rattle.score_table.specs.ScoreTable.{absent, kindFor}
 use Rattle.score_table.specs.Inner.{Memory, EntryRead}
-use Rattle.score_table.specs.Calls.{gridFits, layerFits, fillFits, fillWrites, rowPicked, Picks}
+use Rattle.score_table.specs.Calls.{gridFits, callFits, layerFits, fillFits, fillWrites, rowPicked, pickedOf}
+use Rattle.score_table.specs.declared.Want.{Want}
 use Rattle.score_table.specs.declared.Picked.{Picked}
 
 -- ---- a layer, as the code tests it
@@ -30,16 +31,7 @@ layer-within w n at l = go (leb at (n - 4 ^ w)) refl
     go false e = e ∙ sym (lt-leb (at + 4 ^ w) n (omega (arith, leb-false at (n - 4 ^ w) e)))
 
 module _ (w h : ℕ) (g : List ℕ) where
-  -- ---- the givens
-  pub grid-wide : 10 < w → false ≡ gridFits w h g
-  unfolding gridFits
-  grid-wide l = rw (lt-leb w 10 l)
-
-  pub grid-tall : w ≤ 10 → 60 < h → false ≡ gridFits w h g
-  unfolding gridFits
-  grid-tall p l = rw (le-leb w 10 p, lt-leb h 60 l)
-
-  pub grid-marks : w ≤ 10 → h ≤ 60 → eqb (length g) (w * h) ≡ gridFits w h g
+  grid-marks : w ≤ 10 → h ≤ 60 → eqb (length g) (w * h) ≡ gridFits w h g
   unfolding gridFits
   grid-marks p q = rw (le-leb w 10 p, le-leb h 60 q)
 
@@ -58,43 +50,79 @@ module _ (w h : ℕ) (g : List ℕ) where
         marks = eqb-true (length g) (w * h) (and-right (narrow && low) marked e);
       }
 
+module _ (want : Want) (w h : ℕ) (g : List ℕ) where
+  -- ---- the givens and the numbers, as the code tests them
+  pub call-wide : 10 < w → false ≡ callFits want w h g
+  unfolding gridFits
+  call-wide l = rw (lt-leb w 10 l)
+
+  pub call-tall : w ≤ 10 → 60 < h → false ≡ callFits want w h g
+  unfolding gridFits
+  call-tall p l = rw (le-leb w 10 p, lt-leb h 60 l)
+
+  pub call-unmarked : w ≤ 10 → h ≤ 60 → (length g ≡ w * h → ⊥) → false ≡ callFits want w h g
+  unfolding gridFits
+  call-unmarked p q n = rw (le-leb w 10 p, le-leb h 60 q, ne-eqb (length g) (w * h) n)
+
+  pub call-numbers : w ≤ 10 → h ≤ 60 → length g ≡ w * h → ltb (want .limit) (absent - w) ≡ callFits want w h g
+  call-numbers p q m = go (ltb (want .limit) (absent - w)) refl
+    where
+      L : gridFits w h g ≡ true
+      L = grid-fits w h g (record { narrow = p; low = q; marks = m })
+
+      go : (b : Bool) → ltb (want .limit) (absent - w) ≡ b → ltb (want .limit) (absent - w) ≡ callFits want w h g
+      go true e = e ∙ sym (rw (L, lt-ltb (want .limit + w) absent (omega (arith, ltb-true (want .limit) (absent - w) e))))
+      go false e = e ∙ sym (rw (L, le-ltb (want .limit + w) absent (omega (arith, ltb-false (want .limit) (absent - w) e))))
+
+  pub call-fits : Memory w h g → want .limit + w < absent → callFits want w h g ≡ true
+  call-fits L l = rw (grid-fits w h g L, lt-ltb (want .limit + w) absent l)
+
+  pub call-memory : callFits want w h g ≡ true → Memory w h g
+  call-memory e = grid-of w h g (and-left (gridFits w h g) (ltb (want .limit + w) absent) e)
+
+  pub call-small : callFits want w h g ≡ true → want .limit + w < absent
+  call-small e = ltb-true (want .limit + w) absent (and-right (gridFits w h g) (ltb (want .limit + w) absent) e)
+
   -- ---- the filling of an entry
   module _ (k source target j n : ℕ) where
-    pub fits-unfit : gridFits w h g ≡ false → false ≡ fillFits w h k source target j g n
+    abbrev fitted : Bool
+    fitted = fillFits want w h k source target j g n
+
+    pub fits-unfit : callFits want w h g ≡ false → false ≡ fitted
     unfolding fillFits
     fits-unfit e = rw e
 
-    module _ (e : gridFits w h g ≡ true) where
-      pub fits-past : h ≤ k → false ≡ fillFits w h k source target j g n
+    module _ (e : callFits want w h g ≡ true) where
+      pub fits-past : h ≤ k → false ≡ fitted
       unfolding fillFits
       fits-past l = rw (e, le-ltb k h l)
 
       module _ (l : k < h) where
-        pub fits-outside : 4 ^ w ≤ j → false ≡ fillFits w h k source target j g n
+        pub fits-outside : 4 ^ w ≤ j → false ≡ fitted
         unfolding fillFits
         fits-outside m = rw (e, lt-ltb k h l, le-ltb j (4 ^ w) m)
 
         module _ (m : j < 4 ^ w) where
-          pub fits-target : layerFits w n target ≡ false → false ≡ fillFits w h k source target j g n
+          pub fits-target : layerFits w n target ≡ false → false ≡ fitted
           unfolding fillFits
           fits-target f = rw (e, lt-ltb k h l, lt-ltb j (4 ^ w) m, f)
 
-          pub fits-last : layerFits w n target ≡ true → k ≡ 0 → true ≡ fillFits w h k source target j g n
+          pub fits-last : layerFits w n target ≡ true → k ≡ 0 → true ≡ fitted
           unfolding fillFits
           fits-last f z = rw (e, lt-ltb k h l, lt-ltb j (4 ^ w) m, f, eq-eqb k 0 z)
 
-          pub fits-source : layerFits w n target ≡ true → (k ≡ 0 → ⊥) → layerFits w n source ≡ fillFits w h k source target j g n
+          pub fits-source : layerFits w n target ≡ true → (k ≡ 0 → ⊥) → layerFits w n source ≡ fitted
           unfolding fillFits
           fits-source f z = rw (e, lt-ltb k h l, lt-ltb j (4 ^ w) m, f, ne-eqb k 0 z)
 
   source-when : (b x : Bool) → cond b true x ≡ true → b ≡ false → x ≡ true
   source-when b x e f = rw f at e
 
-  pub fits-read : (k source target j : ℕ) (t : List ℕ) → fillFits w h k source target j g (length t) ≡ true
-      → EntryRead w h k source j g t × (target + 4 ^ w ≤ length t)
+  pub fits-read : (k source target j : ℕ) (t : List ℕ) → fillFits want w h k source target j g (length t) ≡ true
+      → EntryRead w h k source j g t × (want .limit + w < absent) × (target + 4 ^ w ≤ length t)
   unfolding fillFits
   fits-read k source target j t e =
-      let a = gridFits w h g in
+      let a = callFits want w h g in
       let b = ltb k h in
       let c = ltb j (4 ^ w) in
       let d = layerFits w (length t) target in
@@ -103,80 +131,91 @@ module _ (w h : ℕ) (g : List ℕ) where
       let p2 = and-left (a && b && c) d p3 in
       let p1 = and-left (a && b) c p2 in (
         record {
-          memory = grid-of (and-left a b p1);
+          memory = call-memory (and-left a b p1);
           after = ltb-true k h (and-right a b p1);
           inside = ltb-true j (4 ^ w) (and-right (a && b) c p2);
           layer = λ z. leb-true (source + 4 ^ w) (length t)
               (source-when (eqb k 0) (layerFits w (length t) source) (and-right (a && b && c && d) s e) (ne-eqb k 0 z));
         },
+        call-small (and-left a b p1),
         leb-true (target + 4 ^ w) (length t) (and-right (a && b && c) d p3),
       )
 
-  pub read-fits : (k source target j : ℕ) (t : List ℕ) → EntryRead w h k source j g t → target + 4 ^ w ≤ length t
-      → fillFits w h k source target j g (length t) ≡ true
-  read-fits k source target j t R l = go (eqb k 0) refl
+  pub read-fits : (k source target j : ℕ) (t : List ℕ) → EntryRead w h k source j g t → want .limit + w < absent → target + 4 ^ w ≤ length t
+      → fillFits want w h k source target j g (length t) ≡ true
+  read-fits k source target j t R s l = go (eqb k 0) refl
     where
-      go : (b : Bool) → eqb k 0 ≡ b → fillFits w h k source target j g (length t) ≡ true
-      go true e = sym (fits-last k source target j (length t) (grid-fits (R .memory)) (R .after) (R .inside) (le-leb (target + 4 ^ w) (length t) l) (eqb-true k 0 e))
+      go : (b : Bool) → eqb k 0 ≡ b → fillFits want w h k source target j g (length t) ≡ true
+      go true e = sym (fits-last k source target j (length t) (call-fits (R .memory) s) (R .after) (R .inside) (le-leb (target + 4 ^ w) (length t) l) (eqb-true k 0 e))
       go false e =
           let z = eqb-false k 0 e in
-          sym (fits-source k source target j (length t) (grid-fits (R .memory)) (R .after) (R .inside) (le-leb (target + 4 ^ w) (length t) l) z)
+          sym (fits-source k source target j (length t) (call-fits (R .memory) s) (R .after) (R .inside) (le-leb (target + 4 ^ w) (length t) l) z)
           ∙ le-leb (source + 4 ^ w) (length t) (R .layer z)
 
   module _ (next : ℕ → ℕ) (k source target j : ℕ) (t : List ℕ) where
-    pub fill-unfit : fillFits w h k source target j g (length t) ≡ false → t ≡ fillWrites next w h k source target j g t
+    pub fill-unfit : fillFits want w h k source target j g (length t) ≡ false → t ≡ fillWrites want next w h k source target j g t
     unfolding fillWrites
     fill-unfit e = rw e
 
-    pub fill-done : fillFits w h k source target j g (length t) ≡ true
-        → fillEntry (kindOf next w h g) k source target j t ≡ fillWrites next w h k source target j g t
+    pub fill-done : fillFits want w h k source target j g (length t) ≡ true
+        → fillEntry (kindFor want next w h g) k source target j t ≡ fillWrites want next w h k source target j g t
     unfolding fillWrites
     fill-done e = rw e
 
   -- ---- the choice of a row
   module _ (next : ℕ → ℕ) (r source above last : ℕ) (t : List ℕ) where
-    abbrev wanted : Choice ℕ
-    wanted = rowPicked next w h r source above last g t
+    abbrev wanted : Picked
+    wanted = pickedOf w g r (rowPicked want next w h r source above last g t)
 
     abbrev choice : Choice ℕ
-    choice = choose (kindOf next w h g) (h - suc r) above last (reads (kindOf next w h g) t source last)
+    choice = choose (kindFor want next w h g) (h - suc r) above last (reads (kindFor want next w h g) t source last)
 
-    picks-none : nothing ≡ wanted → Picks w g r Picked.Nothing wanted
-    picks-none e = record { is = e; worth = λ row worth sum f. absurd (let z : _≡_ {A = ℕ} 0 1 = cc in omega arith) }
-
-    pub picks-unfit : gridFits w h g ≡ false → Picks w g r Picked.Nothing wanted
+    pub picks-unfit : callFits want w h g ≡ false → Picked.Nothing ≡ wanted
     unfolding rowPicked
-    picks-unfit e = picks-none (rw e)
+    picks-unfit e = rw e
 
-    module _ (e : gridFits w h g ≡ true) where
-      pub picks-past : h ≤ r → Picks w g r Picked.Nothing wanted
+    module _ (e : callFits want w h g ≡ true) where
+      pub picks-past : h ≤ r → Picked.Nothing ≡ wanted
       unfolding rowPicked
-      picks-past l = picks-none (rw (e, le-ltb r h l))
+      picks-past l = rw (e, le-ltb r h l)
 
       module _ (l : r < h) where
-        pub picks-short : layerFits w (length t) source ≡ false → Picks w g r Picked.Nothing wanted
+        pub picks-short : layerFits w (length t) source ≡ false → Picked.Nothing ≡ wanted
         unfolding rowPicked
-        picks-short f = picks-none (rw (e, lt-ltb r h l, f))
+        picks-short f = rw (e, lt-ltb r h l, f)
 
         module _ (f : layerFits w (length t) source ≡ true) where
-          pub picks-above : 2 ^ w ≤ above → Picks w g r Picked.Nothing wanted
+          pub picks-above : 2 ^ w ≤ above → Picked.Nothing ≡ wanted
           unfolding rowPicked
-          picks-above m = picks-none (rw (e, lt-ltb r h l, f, le-ltb above (2 ^ w) m))
+          picks-above m = rw (e, lt-ltb r h l, f, le-ltb above (2 ^ w) m)
 
-          pub picks-last : above < 2 ^ w → 2 ^ w ≤ last → Picks w g r Picked.Nothing wanted
+          pub picks-last : above < 2 ^ w → 2 ^ w ≤ last → Picked.Nothing ≡ wanted
           unfolding rowPicked
-          picks-last m n = picks-none (rw (e, lt-ltb r h l, f, lt-ltb above (2 ^ w) m, le-ltb last (2 ^ w) n))
+          picks-last m n = rw (e, lt-ltb r h l, f, lt-ltb above (2 ^ w) m, le-ltb last (2 ^ w) n)
 
           module _ (m : above < 2 ^ w) (n : last < 2 ^ w) where
-            pub picked-choice : rowPicked next w h r source above last g t ≡ choice
+            pub picked-choice : rowPicked want next w h r source above last g t ≡ choice
             unfolding rowPicked
             picked-choice = rw (e, lt-ltb r h l, f, lt-ltb above (2 ^ w) m, lt-ltb last (2 ^ w) n)
 
-            pub picks-nothing : nothing ≡ choice → Picks w g r Picked.Nothing wanted
-            picks-nothing q = picks-none (q ∙ sym picked-choice)
+            pub picks-choice : {o : Choice ℕ} → o ≡ choice → pickedOf w g r o ≡ wanted
+            picks-choice q = ap (pickedOf w g r) (q ∙ sym picked-choice)
 
-            pub picks-row : (c worth sum : ℕ) → chosen c sum ≡ choice → worth ≡ rowWorth w g (r * w) c → Picks w g r (Picked.Row c worth sum) wanted
-            picks-row c x sum q p = record {
-              is = q ∙ sym picked-choice;
-              worth = λ row y s k. let a : c ≡ row = cc in let b : x ≡ y = cc in sym b ∙ p ∙ ap (rowWorth w g (r * w)) a;
-            }
+-- ---- what the answer tells of the choice
+module _ (w : ℕ) (g : List ℕ) (r : ℕ) where
+  pub picked-nothing : (o : Choice ℕ) → Picked.Nothing ≡ pickedOf w g r o → o ≡ nothing
+  picked-nothing nothing e = refl
+  picked-nothing (chosen c n) e = absurd (let z : _≡_ {A = ℕ} 0 1 = cc in omega arith)
+
+  -- row c was chosen, and x is its worth
+  pub record PickedRow (o : Choice ℕ) (c x : ℕ) : Type 0 where
+    pub sum : ℕ
+    pub is : o ≡ chosen c sum
+    pub worth : x ≡ rowWorth w g (r * w) c
+
+  pub picked-row : (o : Choice ℕ) (c x : ℕ) → Picked.Row c x ≡ pickedOf w g r o → PickedRow o c x
+  picked-row nothing c x e = absurd (let z : _≡_ {A = ℕ} 0 1 = cc in omega arith)
+  picked-row (chosen d n) c x e =
+      let p : c ≡ d = cc in
+      let q : x ≡ rowWorth w g (r * w) d = cc in
+      record { sum = n; is = rw p; worth = rw p q }

@@ -1,17 +1,16 @@
 -- The places of a grid's table are row elimination's.
 -- Assumes nothing.
-use mathlib.Core.Path.{_≡_, refl, sym, _∙_, subst}
+use mathlib.Core.Path.{_≡_, sym, _∙_}
 use mathlib.Core.Bool.{Bool, true, false, cond}
 use Prim.Native.Nat.{ℕ, _+_, _*_, _-_, _/_, _%_, _^_, _<_}
 use native.Mathlib.Nat.{div-add-mod'}
 use native.Mathlib.Omega.{arith}
 use lib.Dec.{ltb}
-use Rattle.elimination.specs.Filling as Filling
-use Rattle.elimination.proofs.Filling.{place-digits, place-lt}
+use Rattle.elimination.specs.FillThenChoose as Whole
+use Rattle.elimination.proofs.FillThenChoose.{place-digits, place-lt}
 use Rattle.board.specs.Checks.{tableSize}
-use Rattle.elimination.specs.Task.{Task, fill, row}
-use Rattle.elimination.specs.Filling.{fillAt}
-use Rattle.elimination.specs.FillThenChoose.{plan}
+use Rattle.elimination.specs.Task.{row}
+use Rattle.elimination.specs.FillThenChoose.{fillAt, plan}
 use Rattle.score_table.specs.ScoreTable.{placeOf, unitPlace, InPlace, PlacesRight}
 use Rattle.board.proofs.Powers.{four-two, table-four}
 
@@ -24,7 +23,7 @@ unit-place w h u =
     let d : j / 2 ^ w * 2 ^ w + j % 2 ^ w ≡ j = div-add-mod' j (2 ^ w) in
     rw e (omega arith)
 
-pub place-same : (w h u : ℕ) → unitPlace w h u ≡ Filling.place h (2 ^ w * 2 ^ w) u
+pub place-same : (w h u : ℕ) → unitPlace w h u ≡ Whole.place h (2 ^ w * 2 ^ w) u
 place-same w h u = unit-place w h u ∙ rw (four-two w) (sym (place-digits h (2 ^ w * 2 ^ w) u))
 
 pub unit-place-lt : (w h u : ℕ) → u < tableSize w h → unitPlace w h u < tableSize w h

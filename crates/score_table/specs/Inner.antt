@@ -1,16 +1,35 @@
 -- What the inner functions are lent and answer, in the terms of the score table.
 -- Assumes nothing.
 use mathlib.Core.Path.{_≡_}
+use mathlib.Core.Bool.{Bool}
 use mathlib.Core.List.{List}
 use Prim.Native.Nat.{ℕ, _+_, _*_, _-_, _/_, _%_, _^_, _≤_, _<_}
-use lib.ListN.{length}
-use Rattle.elimination.specs.Candidates.{Choice, nothing, chosen}
-use Rattle.elimination.specs.Kind.{entry}
+use lib.Dec.{eqb}
+use lib.ListN.{length, getD}
+use Rattle.board.specs.Boards.{maxWidth, maxHeight}
+use Rattle.elimination.specs.Candidates.{Choice, nothing, chosen, Comparison}
+use Rattle.elimination.specs.Kind.{Kind, entry}
+use Rattle.elimination.specs.Sums.{sumWorse, sumKind}
 use Rattle.elimination.specs.Table.{reads}
-use Rattle.score_table.specs.ScoreTable.{kindOf}
+use Rattle.life.specs.Rows.{window, stepsTo}
+use Rattle.score_table.specs.ScoreTable.{rules, kindFor}
+use Rattle.score_table.specs.declared.Want.{Want}
 use Rattle.score_table.specs.declared.best.Best.{Best}
 use Rattle.score_table.specs.declared.best.Best.the-variants.{Nothing, Row}
 
+-- ---- columns 0 to w + 1 of a over b, which has to become t
+-- the digits that a and b give to the pattern of a column, and before the nine the cell of t
+abbrev pub columnOf : ℕ → ℕ → ℕ → ℕ → ℕ → ℕ
+columnOf w a b t j = 512 * (window w t j / 2 % 2) + 64 * window w a j + 8 * window w b j
+
+pub record Columns (w a b t : ℕ) (columns : List ℕ) : Type 0 where
+  pub at : (j : ℕ) → j < w + 2 → getD columns j 0 ≡ columnOf w a b t j
+
+-- with row c below, the cell of the pattern becomes the one before it
+abbrev pub passes : (ℕ → ℕ) → ℕ → ℕ → ℕ → ℕ → Bool
+passes next w column c j = eqb (next ((column + window w c j) % 512)) ((column + window w c j) / 512)
+
+-- ---- the search
 -- the next row that differs from x in columns 1 to j + 1
 unfoldable pub skipTo : ℕ → ℕ → ℕ → ℕ
 skipTo w x j = (x / 2 ^ (w - (j + 1)) + 1) * 2 ^ (w - (j + 1))
@@ -20,20 +39,29 @@ abbrev pub choiceOf : Best → Choice ℕ
 choiceOf Nothing = nothing
 choiceOf (Row c n) = chosen c n
 
--- the best row is the rule's choice; a row that is found is one, and its number fits 16 bits
-pub record Found (w : ℕ) (r : Best) (wanted : Choice ℕ) : Type 0 where
+-- how rows are compared
+abbrev pub compared : Want → Comparison ℕ
+compared want = record { worse = sumWorse (want .least); greaterFirst = want .«greater_first»; merge = λ x y. x }
+
+-- one search: the middle row has to become t, and the candidates keep the givens that start at a place
+abbrev pub kindBy : Want → (ℕ → ℕ) → ℕ → ℕ → List ℕ → ℕ → Kind ℕ
+kindBy want next w t givens at = sumKind (rules want (λ a b c. stepsTo next w a b c t) w (λ k. at) givens)
+
+-- the best row is the rule's choice; a row that is found is one, and its number is at most the limit and a row's worth
+pub record Found (want : Want) (w : ℕ) (r : Best) (wanted : Choice ℕ) : Type 0 where
   pub is : choiceOf r ≡ wanted
   pub row-lt : (c n : ℕ) → r ≡ Best.Row c n → c < 2 ^ w
-  pub number-le : (c n : ℕ) → r ≡ Best.Row c n → n ≤ 600 + w
+  pub number-le : (c n : ℕ) → r ≡ Best.Row c n → n ≤ want .limit + w
 
+-- ---- the filling of an entry
 -- the entries of a layer
 abbrev pub layerSize : ℕ → ℕ
 layerSize w = 4 ^ w
 
 -- a grid's givens, lent
 pub record Memory (w h : ℕ) (givens : List ℕ) : Type 0 where
-  pub narrow : w ≤ 10
-  pub low : h ≤ 60
+  pub narrow : w ≤ maxWidth
+  pub low : h ≤ maxHeight
   pub marks : length givens ≡ w * h
 
 -- entry j of a layer with k rows after it, and the layer at `source` that it reads; the last layer reads none
@@ -44,6 +72,6 @@ pub record EntryRead (w h k source j : ℕ) (givens table : List ℕ) : Type 0 w
   pub layer : (k ≡ 0 → ⊥) → source + 4 ^ w ≤ length table
 
 -- the number that it has to be, over what the table holds
-abbrev pub entryOver : (ℕ → ℕ) → ℕ → ℕ → ℕ → ℕ → ℕ → List ℕ → List ℕ → ℕ
-entryOver next w h k source j givens table =
-    entry (kindOf next w h givens) k (j / 2 ^ w) (j % 2 ^ w) (reads (kindOf next w h givens) table source (j % 2 ^ w))
+abbrev pub entryOver : Want → (ℕ → ℕ) → ℕ → ℕ → ℕ → ℕ → ℕ → List ℕ → List ℕ → ℕ
+entryOver want next w h k source j givens table =
+    entry (kindFor want next w h givens) k (j / 2 ^ w) (j % 2 ^ w) (reads (kindFor want next w h givens) table source (j % 2 ^ w))

@@ -13,29 +13,38 @@ use Rattle.elimination.specs.Task.{Task, fill, row}
 use Rattle.elimination.specs.FillThenChoose.{plan}
 use Rattle.life.specs.Rows.{agree}
 use Rattle.score_table.specs.Rows.{rowWorth, rowKept}
+use Rattle.score_table.specs.declared.Want.{Want}
 
--- What is asked: the greatest number of free live cells, among equals the smallest row; 65,535 stands for none, and a number read above 600
--- counts as none. Row c may stand below a over b where the three agree and c keeps the givens of its row, which start at `givensAt k` with k rows
--- after it; the board may end below a over b where (a, b, 0) and (b, 0, 0) agree. `agreed` is whether three rows agree.
-abbrev pub rules : (ℕ → ℕ → ℕ → Bool) → ℕ → (ℕ → ℕ) → List ℕ → SumRules
-rules agreed w givensAt givens = record {
-  least = false;
-  greaterFirst = false;
-  absent = 65535;
-  limit = 600;
+-- the number that stands for none
+abbrev pub absent : ℕ
+absent = 65535
+
+-- what is wanted of a grid: the greatest number of free live cells, among equals the smallest row; a number read above 600 counts as none
+abbrev pub mostLive : Want
+mostLive = record { least = false; «greater_first» = false; limit = 600 }
+
+-- What is asked: the sum of free live cells that is wanted. Row c may stand below a over b where the three agree and c keeps the givens of its
+-- row, which start at `givensAt k` with k rows after it; the board may end below a over b where (a, b, 0) and (b, 0, 0) agree. `agreed` is whether
+-- three rows agree.
+abbrev pub rules : Want → (ℕ → ℕ → ℕ → Bool) → ℕ → (ℕ → ℕ) → List ℕ → SumRules
+rules want agreed w givensAt givens = record {
+  least = want .least;
+  greaterFirst = want .«greater_first»;
+  absent = absent;
+  limit = want .limit;
   worth = λ k c. rowWorth w givens (givensAt k) c;
   codes = 2 ^ w;
   may = λ k a b c. agreed a b c && rowKept w givens (givensAt k) c;
   mayEnd = λ a b. agreed a b 0 && agreed b 0 0;
 }
 
--- rows agree by `next`
-abbrev pub kindBy : (ℕ → ℕ) → ℕ → (ℕ → ℕ) → List ℕ → Kind ℕ
-kindBy next w givensAt givens = sumKind (rules (agree next w) w givensAt givens)
+-- of a grid of h rows, which agree by `next`: the row with k rows after it has h - k - 1 rows above it
+abbrev pub kindFor : Want → (ℕ → ℕ) → ℕ → ℕ → List ℕ → Kind ℕ
+kindFor want next w h givens = sumKind (rules want (agree next w) w (λ k. (h - suc k) * w) givens)
 
--- of a grid of h rows: the row with k rows after it has h - k - 1 rows above it
+-- the grid's
 abbrev pub kindOf : (ℕ → ℕ) → ℕ → ℕ → List ℕ → Kind ℕ
-kindOf next w h givens = kindBy next w (λ k. (h - suc k) * w) givens
+kindOf next w h givens = kindFor mostLive next w h givens
 
 -- ---- where entries lie
 -- the place of entry (i, a, b), counted from 0

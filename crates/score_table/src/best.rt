@@ -1,12 +1,17 @@
 // The best row below two rows.
+use crate::Want;
 use crate::rows;
 ghost use mathlib.Core.Path.{_≡_};
+ghost use Rattle.board.specs.Boards.{maxWidth};
+ghost use mathlib.Core.Option.{some};
 ghost use Prim.Native.Nat.{_+_, _<_, _≤_, _^_};
 ghost use lib.ListN.{length};
 ghost use Rattle.rule.specs.Rule.{entryOf};
+ghost use Rattle.elimination.specs.Candidates as Candidates;
 ghost use Rattle.elimination.specs.Kind.{choose};
-ghost use Rattle.score_table.specs.ScoreTable.{kindBy, readsFrom};
-ghost use Rattle.score_table.specs.Inner.{skipTo, Found};
+ghost use Rattle.elimination.specs.Sums.{sumWorse};
+ghost use Rattle.score_table.specs.ScoreTable.{readsFrom};
+ghost use Rattle.score_table.specs.Inner.{skipTo, choiceOf, compared, kindBy, Found};
 
 pub enum Best {
     Nothing,
@@ -16,44 +21,70 @@ pub enum Best {
 
 // The next row that differs from x in columns 1 to j + 1: every row before it has the cells of x there.
 fn next_row(w: usize, x: usize, j: usize) -> usize
-    requires { ⌜ (w ≤ 10) × (x < 2 ^ w) × (j ≤ w + 1) ⌝ }
+    requires { ⌜ (w ≤ maxWidth) × (x < 2 ^ w) × (j ≤ w + 1) ⌝ }
     ensures { λ r. ⌜ (r ≡ skipTo w x j) × (x < r) × (r ≤ 2 ^ w) ⌝ }
 {
     let s = if j + 1 < w { w - (j + 1) } else { 0 };
     ((x >> s) + 1) << s
 }
 
-// The best row below a over b: of the rows c that agree with the two and keep the givens that start at a place, and for which the table has a
-// number from `first` on that isn't none, the one with the greatest sum of its worth and the number, among equals the smallest.
+// Whether sum x is worse than y.
+fn worse(least: bool, x: usize, y: usize) -> bool
+    ensures { λ r. ⌜ r ≡ sumWorse least x y ⌝ }
+{
+    if least { y < x } else { x < y }
+}
+
+// What is held after a row that comes later, with its sum.
+fn consider(want: Want, held: Best, row: usize, sum: usize) -> Best
+    ensures { λ r. ⌜ choiceOf r ≡ Candidates.consider (compared want) row (some sum) (choiceOf held) ⌝ }
+{
+    match held {
+        Best::Nothing => Best::Row(row, sum),
+        Best::Row(_, best) => {
+            if worse(want.least, best, sum) {
+                return Best::Row(row, sum);
+            }
+            if worse(want.least, sum, best) {
+                return held;
+            }
+            if want.greater_first {
+                return Best::Row(row, best);
+            }
+            held
+        }
+    }
+}
+
+// The best row below a over b, which has to become t: of the rows c below which it does and that keep the givens that start at a place, and for
+// which the table has a number from `first` on that isn't none, the one with the wanted sum of its worth and the number.
 pub fn best_row(
     next: &[u8; 512],
+    want: Want,
     w: usize,
     a: usize,
     b: usize,
+    t: usize,
     givens: &[u8],
     at: usize,
     table: &[u16],
     first: usize,
 ) -> Best
-    requires { ⌜ (w ≤ 10) × (a < 2 ^ w) × (b < 2 ^ w) × (at + w ≤ length (now givens)) × (first + 2 ^ w ≤ length (now table)) ⌝ }
-    ensures { λ r. ⌜ Found w r (choose (kindBy (entryOf (now (next .entry))) w (λ k. at) (now (givens .entry))) 0 a b (readsFrom (now (table .entry)) first)) ⌝ }
+    requires { ⌜ (w ≤ maxWidth) × (a < 2 ^ w) × (b < 2 ^ w) × (t < 2 ^ w) × (at + w ≤ length (now givens)) × (first + 2 ^ w ≤ length (now table)) ⌝ }
+    ensures { λ r. ⌜ Found want w r (choose (kindBy want (entryOf (now (next .entry))) w t (now (givens .entry)) at) 0 a b (readsFrom (now (table .entry)) first)) ⌝ }
 {
     let n = rows::row_codes(w);
+    let columns = rows::columns(w, a, b, t);
     let mut c = 0;
-    let mut best = 0; // one more than the best sum, 0 while there is none
-    let mut row = 0;
+    let mut held = Best::Nothing;
     'rows: loop {
         if n <= c {
-            break if best == 0 {
-                Best::Nothing
-            } else {
-                Best::Row(row, best - 1)
-            };
+            break held;
         }
         let x = c;
         let mut j = 0;
         while j < w + 2 {
-            if !rows::keeps(next, w, a, b, x, j) {
+            if !rows::passes(next, w, columns[j], x, j) {
                 c = next_row(w, x, j);
                 continue 'rows;
             }
@@ -64,13 +95,9 @@ pub fn best_row(
             continue 'rows;
         }
         let e = table[first + x] as usize;
-        if 600 < e {
+        if want.limit < e {
             continue 'rows;
         }
-        let v = 1 + rows::row_worth(w, givens, at, x) + e;
-        if best < v {
-            best = v;
-            row = x;
-        }
+        held = consider(want, held, x, rows::row_worth(w, givens, at, x) + e);
     }
 }

@@ -1,18 +1,23 @@
 // Filling: one entry of the score table.
+use crate::Want;
 use crate::best;
 use crate::best::Best;
 use crate::rows;
 ghost use mathlib.Core.Path.{_≡_};
+ghost use Rattle.board.specs.Boards.{maxWidth};
 ghost use Prim.Native.Nat.{_+_, _<_, _≤_, _^_};
 ghost use lib.ListN.{length};
 ghost use Rattle.elimination.specs.Table.{fillEntry};
 ghost use Rattle.rule.specs.Rule.{entryOf};
-ghost use Rattle.score_table.specs.ScoreTable.{kindOf};
+ghost use Rattle.score_table.specs.ScoreTable.{absent, kindFor};
 ghost use Rattle.score_table.specs.Inner.{EntryRead, entryOver, layerSize};
+
+// The number that stands for none.
+pub const NONE: u16 = 65535;
 
 // The entries of a layer, 4^w.
 pub fn layer_size(w: usize) -> usize
-    requires { ⌜ w ≤ 10 ⌝ }
+    requires { ⌜ w ≤ maxWidth ⌝ }
     ensures { λ r. ⌜ (r ≡ layerSize w) × (0 < r) × (r ≤ 1048576) ⌝ }
 {
     1 << (2 * w)
@@ -21,6 +26,7 @@ pub fn layer_size(w: usize) -> usize
 // The number of entry j of the layer with k rows after it, over the numbers that the table holds in the layer that starts at `source`.
 fn entry_at(
     next: &[u8; 512],
+    want: Want,
     w: usize,
     h: usize,
     k: usize,
@@ -29,24 +35,24 @@ fn entry_at(
     givens: &[u8],
     table: &[u16],
 ) -> u16
-    requires { ⌜ EntryRead w h k source j (now givens) (now table) ⌝ }
-    ensures { λ r. ⌜ r ≡ entryOver (entryOf (now (next .entry))) w h k source j (now (givens .entry)) (now (table .entry)) ⌝ }
+    requires { ⌜ EntryRead w h k source j (now givens) (now table) × (want .limit + w < absent) ⌝ }
+    ensures { λ r. ⌜ r ≡ entryOver want (entryOf (now (next .entry))) w h k source j (now (givens .entry)) (now (table .entry)) ⌝ }
 {
     let n = rows::row_codes(w);
     let a = j / n;
     let b = j % n;
     if k == 0 {
-        if !rows::agrees(next, w, a, b, 0) {
-            return 65535;
+        if !rows::steps_to(next, w, a, b, 0, b) {
+            return NONE;
         }
-        if !rows::agrees(next, w, b, 0, 0) {
-            return 65535;
+        if !rows::steps_to(next, w, b, 0, 0, 0) {
+            return NONE;
         }
         return 0;
     }
     let r = h - k;
-    match best::best_row(next, w, a, b, givens, r * w, table, source + b * n) {
-        Best::Nothing => 65535,
+    match best::best_row(next, want, w, a, b, b, givens, r * w, table, source + b * n) {
+        Best::Nothing => NONE,
         Best::Row(_, e) => e as u16,
     }
 }
@@ -54,6 +60,7 @@ fn entry_at(
 // Writes it into the layer that starts at `target`.
 pub fn write_entry(
     next: &[u8; 512],
+    want: Want,
     w: usize,
     h: usize,
     k: usize,
@@ -63,9 +70,9 @@ pub fn write_entry(
     givens: &[u8],
     table: &mut [u16],
 )
-    requires { ⌜ EntryRead w h k source j (now givens) (now table) × (target + 4 ^ w ≤ length (now table)) ⌝ }
-    ensures { λ _. ⌜ now (table .exit) ≡ fillEntry (kindOf (entryOf (now (next .entry))) w h (now (givens .entry))) k source target j (now (table .entry)) ⌝ }
+    requires { ⌜ EntryRead w h k source j (now givens) (now table) × (want .limit + w < absent) × (target + 4 ^ w ≤ length (now table)) ⌝ }
+    ensures { λ _. ⌜ now (table .exit) ≡ fillEntry (kindFor want (entryOf (now (next .entry))) w h (now (givens .entry))) k source target j (now (table .entry)) ⌝ }
 {
-    let e = entry_at(next, w, h, k, source, j, givens, table);
+    let e = entry_at(next, want, w, h, k, source, j, givens, table);
     table[target + j] = e;
 }

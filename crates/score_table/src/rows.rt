@@ -1,14 +1,16 @@
 // Rows as numbers: a row's cells are its binary digits, the leftmost most significant.
 ghost use mathlib.Core.Path.{_≡_};
+ghost use Rattle.board.specs.Boards.{maxWidth};
 ghost use Prim.Native.Nat.{_+_, _<_, _≤_, _^_};
 ghost use lib.ListN.{length};
 ghost use Rattle.rule.specs.Rule.{entryOf};
-ghost use Rattle.life.specs.Rows.{window, becomes, agree};
+ghost use Rattle.life.specs.Rows.{window, stepsTo};
+ghost use Rattle.score_table.specs.Inner.{columnOf, Columns, passes};
 ghost use Rattle.score_table.specs.Rows.{markKept, rowKept, cellWorth, rowWorth};
 
 // The number of rows of width w.
 pub fn row_codes(w: usize) -> usize
-    requires { ⌜ w ≤ 10 ⌝ }
+    requires { ⌜ w ≤ maxWidth ⌝ }
     ensures { λ r. ⌜ (r ≡ 2 ^ w) × (r ≤ 1024) ⌝ }
 {
     1 << w
@@ -16,28 +18,48 @@ pub fn row_codes(w: usize) -> usize
 
 // The cells in columns j - 1, j and j + 1 of a row, as three digits.
 fn window_at(w: usize, row: usize, j: usize) -> usize
-    requires { ⌜ (w ≤ 10) × (row < 2 ^ w) × (j ≤ w + 1) ⌝ }
+    requires { ⌜ (w ≤ maxWidth) × (row < 2 ^ w) × (j ≤ w + 1) ⌝ }
     ensures { λ x. ⌜ (x ≡ window w row j) × (x < 8) ⌝ }
 {
     (4 * row >> (w + 1 - j)) % 8
 }
 
-// Whether the cell of b in column j keeps its state, with a over b over c.
-pub fn keeps(next: &[u8; 512], w: usize, a: usize, b: usize, c: usize, j: usize) -> bool
-    requires { ⌜ (w ≤ 10) × (a < 2 ^ w) × (b < 2 ^ w) × (c < 2 ^ w) × (j ≤ w + 1) ⌝ }
-    ensures { λ r. ⌜ r ≡ becomes (entryOf (now (next .entry))) w a b c b j ⌝ }
+// Column j of a over b, which has to become t: the digits that a and b give to its pattern, and before the nine the cell of t.
+fn column(w: usize, a: usize, b: usize, t: usize, j: usize) -> usize
+    requires { ⌜ (w ≤ maxWidth) × (a < 2 ^ w) × (b < 2 ^ w) × (t < 2 ^ w) × (j ≤ w + 1) ⌝ }
+    ensures { λ r. ⌜ (r ≡ columnOf w a b t j) × (r < 1024) ⌝ }
 {
-    let p = 64 * window_at(w, a, j) + 8 * window_at(w, b, j) + window_at(w, c, j);
-    next[p] == (p / 16 % 2) as u8
+    512 * (window_at(w, t, j) / 2 % 2) + 64 * window_at(w, a, j) + 8 * window_at(w, b, j)
 }
 
-// Whether rows a, b, c agree.
-pub fn agrees(next: &[u8; 512], w: usize, a: usize, b: usize, c: usize) -> bool
-    requires { ⌜ (w ≤ 10) × (a < 2 ^ w) × (b < 2 ^ w) × (c < 2 ^ w) ⌝ }
-    ensures { λ r. ⌜ r ≡ agree (entryOf (now (next .entry))) w a b c ⌝ }
+// Columns 0 to w + 1: what the test of a column asks of a, b and t, once for all rows below them.
+pub fn columns(w: usize, a: usize, b: usize, t: usize) -> [usize; 12]
+    requires { ⌜ (w ≤ maxWidth) × (a < 2 ^ w) × (b < 2 ^ w) × (t < 2 ^ w) ⌝ }
+    ensures { λ r. ⌜ Columns w a b t r ⌝ }
+{
+    let mut r = [0; 12];
+    for j in 0..w + 2 {
+        r[j] = column(w, a, b, t, j);
+    }
+    r
+}
+
+// Whether with c below it the cell of b becomes that of t, by the column of both.
+pub fn passes(next: &[u8; 512], w: usize, column: usize, c: usize, j: usize) -> bool
+    requires { ⌜ (w ≤ maxWidth) × (column < 1024) × (c < 2 ^ w) × (j ≤ w + 1) ⌝ }
+    ensures { λ r. ⌜ r ≡ passes (entryOf (now (next .entry))) w column c j ⌝ }
+{
+    let p = column + window_at(w, c, j);
+    next[p % 512] == (p / 512) as u8
+}
+
+// Whether rows a, b, c step to row t in the middle, and the ring beside it stays dead; with t = b, whether they agree.
+pub fn steps_to(next: &[u8; 512], w: usize, a: usize, b: usize, c: usize, t: usize) -> bool
+    requires { ⌜ (w ≤ maxWidth) × (a < 2 ^ w) × (b < 2 ^ w) × (c < 2 ^ w) × (t < 2 ^ w) ⌝ }
+    ensures { λ r. ⌜ r ≡ stepsTo (entryOf (now (next .entry))) w a b c t ⌝ }
 {
     for j in 0..w + 2 {
-        if !keeps(next, w, a, b, c, j) {
+        if !passes(next, w, column(w, a, b, t, j), c, j) {
             return false;
         }
     }
@@ -57,7 +79,7 @@ fn mark_kept(mark: u8, cell: usize) -> bool
 
 // Whether a row keeps the givens that start at a place of the grid.
 pub fn row_kept(w: usize, givens: &[u8], at: usize, row: usize) -> bool
-    requires { ⌜ (w ≤ 10) × (at + w ≤ length (now givens)) ⌝ }
+    requires { ⌜ (w ≤ maxWidth) × (at + w ≤ length (now givens)) ⌝ }
     ensures { λ r. ⌜ r ≡ rowKept w (now (givens .entry)) at row ⌝ }
 {
     for k in 0..w {
@@ -81,7 +103,7 @@ fn cell_worth(mark: u8, cell: usize) -> usize
 
 // The worth of a row: its live cells that are free, by the givens that start at a place of the grid.
 pub fn row_worth(w: usize, givens: &[u8], at: usize, row: usize) -> usize
-    requires { ⌜ (w ≤ 10) × (at + w ≤ length (now givens)) ⌝ }
+    requires { ⌜ (w ≤ maxWidth) × (at + w ≤ length (now givens)) ⌝ }
     ensures { λ r. ⌜ (r ≡ rowWorth w (now (givens .entry)) at row) × (r ≤ w) ⌝ }
 {
     let mut n = 0;

@@ -1,39 +1,38 @@
 -- A kind of job that shows its laws is lawful, so it meets the third demand.
 -- Assumes nothing.
-use mathlib.Core.Path.{_≡_, refl, sym, _∙_, ap, ap₂, subst}
-use mathlib.Core.Bool.{Bool, true, false, true≢false}
+use mathlib.Core.Path.{_≡_, refl, sym, _∙_, ap, subst}
+use mathlib.Core.Bool.{true≢false}
 use mathlib.Core.List.{List}
-use Prim.Native.Nat.{ℕ, zero, suc, _+_, _*_, _≤_, _<_}
+use mathlib.Core.Logic.{⊎-elim}
+use Prim.Native.Nat.{ℕ, _*_, _≤_, _<_}
+use native.Mathlib.Nat.{eq-or-lt-of-le}
 use native.Mathlib.Omega.{arith}
-use borrow.Author.Tests.{leb-true}
-use lib.Dec.{leb}
 use lib.ListN.{length}
 use Rattle.board.specs.Answers.{Answer, passed}
-use Rattle.elimination.specs.Endings.{Solved, noEnding, anEnding, total}
+use Rattle.elimination.specs.Endings.{Solved, noEnding, anEnding}
 use Rattle.elimination.specs.Endings as Endings
 use Rattle.elimination.specs.Kind.{rightEntry, rightRows}
-use Rattle.elimination.specs.Machine.{Machine, advance, Lasts, ComesTo}
-use Rattle.elimination.specs.Job.{Mark, running, finished, infeasible, endMark, Setup, opened, machine}
+use Rattle.elimination.specs.Machine.{advance, Lasts}
+use Rattle.elimination.specs.Job.{Mark, finished, infeasible, endMark, markNumber, Setup, opened, machine}
 use Rattle.elimination.specs.Job as Elimination
 use Rattle.elimination.specs.Completion.{Completion, boardEnd, noneEnd}
 use Rattle.elimination.specs.Completion as Completion
-use Rattle.elimination.specs.Progress.{Progress}
-use Rattle.elimination.specs.Shape.{Shape}
+use Rattle.elimination.specs.Progress.{Carried, rowsHeld}
+use Rattle.elimination.specs.Shape.{rowsChosen}
 use Rattle.elimination.proofs.Endings.{elimination-solves}
-use Rattle.elimination.proofs.Machine.{advance-zero, after-units}
-use Rattle.elimination.proofs.Places.{orderly-sound, table-filled}
+use Rattle.elimination.proofs.Places.{orderly-sound}
 use Rattle.elimination.proofs.Completion.{job-completes}
-use Rattle.elimination.proofs.Progress.{progress-made}
-use Rattle.job.specs.Jobs.{markOf, liveOf, numbersOf}
+use Rattle.elimination.proofs.Shape.{rows-chosen-none, chosen-late}
+use Rattle.elimination.proofs.Progress.{carried-none, progress-made}
+use Rattle.job.specs.Jobs.{markOf, liveOf}
 use Rattle.job.specs.declared.Stage.{Stage}
 use Rattle.job.specs.declared.Job.{Job}
-use Rattle.job.specs.declared.Checkpoint.{Checkpoint}
 use Rattle.service.specs.Service.{stageSays, State, Step}
 use Rattle.service.specs.Service as Service
 use Rattle.service.specs.Laws.{Follows, Course, Comes, toBoard, toNone, Lawful}
-use Rattle.service.specs.JobKinds.{JobKind, Best, aimOf, serviceOf, KindLaws, Opened, KindMeetsDemand}
+use Rattle.service.specs.JobKinds.{JobKind, rowsIn, aimOf, serviceOf, KindLaws, Opened, KindMeetsDemand}
 use Rattle.service.proofs.Numbers.{continues}
-use Rattle.service.proofs.Units.{markIn, viewOf, view, Here, follows}
+use Rattle.service.proofs.Units.{markIn, view, Here, follows}
 use Rattle.service.proofs.Demand.{meets-demand}
 
 -- ---- stages
@@ -49,6 +48,12 @@ infeasible-says (Stage.Choosing a l n) e = absurd (true≢false (sym (ap endMark
 infeasible-says (Stage.Finished a l n) e = absurd (let z : _≡_ {A = ℕ} 0 1 = cc in omega arith)
 infeasible-says Stage.Infeasible e = refl
 
+mark-number : (s : Stage) → markNumber (markIn (markOf s)) ≡ markOf s
+mark-number (Stage.Filling a l n) = refl
+mark-number (Stage.Choosing a l n) = refl
+mark-number (Stage.Finished a l n) = refl
+mark-number Stage.Infeasible = refl
+
 abbrev Run : Type 0
 Run = Elimination.State ℕ (List ℕ)
 
@@ -57,6 +62,12 @@ tableIn s = s .table
 
 abbrev boardIn : Run → List ℕ
 boardIn s = s .board
+
+abbrev aboveAt : Run → ℕ
+aboveAt s = s .above
+
+abbrev lastAt : Run → ℕ
+lastAt s = s .last
 
 abbrev markAt : Run → Mark
 markAt s = s .mark
@@ -78,21 +89,27 @@ module _ (Given : Type 0) (check : Job → Given → List ℕ → List ℕ → A
   abbrev after : ℕ → Run
   after m = advance (machine (K .setup)) m first
 
+  -- the rows that a job has chosen, as the machine has them
+  rows-held : (e : State (List ℕ)) → rowsIn K (e .job) ≡ rowsHeld (K .shape) (view e)
+  rows-held e = ap (rowsChosen (K .shape) (e .job .units)) (sym (mark-number (e .job .stage)))
+
   view-first : view s ≡ first
   view-first = rw (B .units, B .above, B .last, B .live, B .mark, L .zero-start)
 
-  -- ---- where the machine lasts `long` units, then says `final`, and its board is `wanted`
+  -- ---- where the machine lasts `long` units, then says `final`, its board is `wanted`, and a row is chosen only where that is the wanted board
   module _ (long : ℕ) (final : Answer) (wanted : List ℕ) (lasts : Lasts (machine J) first long) (within : long ≤ K .shape .boardLength)
-      (room : K .shape .entries ≤ length (s .table)) (end : (e : State (List ℕ)) → view e ≡ after long → stageSays (e .job .stage) ≡ final)
-      (only : (m : ℕ) → m ≤ long → (e : State (List ℕ)) → view e ≡ after m → markOf (e .job .stage) ≡ 2 → wanted ≡ s .board)
-      (last : after long .board ≡ wanted) where
+      (room : K .shape .entries ≤ length (s .table)) (size : length (s .board) ≡ K .cells)
+      (end : (e : State (List ℕ)) → view e ≡ after long → stageSays (e .job .stage) ≡ final)
+      (only : (m : ℕ) → m ≤ long → 0 < rowsHeld (K .shape) (after m) → K .Wanted wanted) (last : after long .board ≡ wanted) where
     progress : (m : ℕ) → m ≤ long → (e : State (List ℕ)) → F .Here e → view e ≡ after m → K .Progress wanted s e
     progress m l e H i =
-        let P = progress-made ℕ J (K .shape) (K .shape .entries) (K .width) long (L .numbered .plans) (L .numbered .shaped) (L .orderly) (L .wide) (L .writer) within (s .table) (s .board) room lasts m l in
+        let tall : J .height * K .width ≤ length (s .board) = omega (arith, L .all-rows) in
+        let P = progress-made J (K .shape) (K .width) (L .read) (K .shape .entries) long (L .numbered .plans) (L .numbered .rows) (L .numbered .shaped) (L .orderly) (L .wide) (L .high)
+        (L .writer) within (s .table) (s .board) room tall lasts m l in
         let u : e .job .units ≡ m = ap Elimination.done i ∙ lasts .counted m l in
-        let t : e .table ≡ after m .table = ap tableIn i in
-        let b : e .board ≡ after m .board = ap boardIn i in
-        L .progress wanted s e (H .of) (H .taken) (only m l e i) (rw (u, t) (P .table)) (rw (u, b, ← last) (P .board))
+        let k : rowsIn K (e .job) ≡ rowsHeld (K .shape) (after m) = rows-held e ∙ ap (rowsHeld (K .shape)) i in
+        L .progress wanted s e (H .of) (H .taken) (λ p. only m l (omega arith)) (rw (u, ap tableIn i) (P .table)) (rw (k, ap boardIn i, ← last) (P .board))
+        (rw (k, ap aboveAt i, ap lastAt i, ap soFarAt i, ← last) (P .carried))
 
     goes-along : Course (serviceOf Given check unit) (aimOf K) F long final wanted s
     goes-along = record {
@@ -114,16 +131,6 @@ module _ (Given : Type 0) (check : Job → Given → List ℕ → List ℕ → A
   abbrev worth : ℕ
   worth = rightEntry (J .kind) (J .height) 0 0
 
-  -- a job that is running or finished is none's
-  never-none : (long m : ℕ) → Lasts (machine J) first long → after long .mark ≡ finished → m ≤ long → (e : State (List ℕ)) → view e ≡ after m
-      → markOf (e .job .stage) ≡ 2 → ⊥
-  never-none long m lasts f l e i n =
-      let mark : after m .mark ≡ infeasible = sym (ap markAt i) ∙ ap markIn n in
-      let b : leb long m ≡ true = sym (after-units (machine J) lasts m .ended) ∙ ap endMark mark in
-      let q : m ≡ long = omega (arith, leb-true long m b) in
-      let g : infeasible ≡ finished = sym mark ∙ ap (λ (x : ℕ). after x .mark) q ∙ f in
-      let o : _≡_ {A = ℕ} 0 1 = cc in omega arith
-
   board-course : (T : Endings.Optimal (J .kind) (J .height) 0 0 worth rows)
       → check (s .job) given (s .table) (s .board) ≡ passed
       → Course (serviceOf Given check unit) (aimOf K) F (K .shape .boardLength) (Service.finished (K .score (L .boardOf rows))) (L .boardOf rows) s
@@ -137,13 +144,24 @@ module _ (Given : Type 0) (check : Job → Given → List ℕ → List ℕ → A
       go (Completion.toBoard T′ c) =
           let lasts : Lasts (machine J) first (K .shape .boardLength) = rw (L .length-board) at (c .lasts) in
           let ends : after (K .shape .boardLength) ≡ boardEnd J (L .course) (s .table) (s .board) = ap after (sym (L .length-board)) ∙ c .end in
-          goes-along (K .shape .boardLength) (Service.finished (K .score (L .boardOf rows))) (L .boardOf rows) lasts (omega arith) (R .1)
+          goes-along (K .shape .boardLength) (Service.finished (K .score (L .boardOf rows))) (L .boardOf rows) lasts (omega arith) (R .1) (R .0)
           (λ e i.
           finished-says (e .job .stage) (ap markAt (i ∙ ends))
           ∙ ap Service.finished (ap soFarAt (i ∙ ends) ∙ sym (L .best worth rows T .1)))
-          (λ m l e i n. absurd (never-none (K .shape .boardLength) m lasts (ap markAt ends) l e i n))
+          (λ m l p. L .best worth rows T .0)
           (ap boardIn ends ∙ L .into rows (T .lawful) (s .board) (R .0))
       go (Completion.toNone n c) = absurd (n rows (T .lawful))
+
+  -- where there is no board, no row is chosen
+  rows-held-none : (m : ℕ) → after (K .shape .noneLength) .mark ≡ infeasible → Lasts (machine J) first (K .shape .noneLength) → m ≤ K .shape .noneLength
+      → rowsHeld (K .shape) (after m) ≡ 0
+  unfolding rowsChosen
+  rows-held-none m n lasts l =
+      ⊎-elim (λ (e : m ≡ K .shape .noneLength). rw (e, n))
+      (λ (b : m < K .shape .noneLength).
+      let z : K .shape .chosen m ≡ 0 = chosen-late (K .shape) (L .numbered .shaped) (L .shorter) m b in
+      rows-chosen-none (K .shape) (after m .units) (markNumber (after m .mark)) (ap (K .shape .chosen) (lasts .counted m l) ∙ z))
+      (eq-or-lt-of-le l)
 
   none-course : Endings.NoEnding (J .kind) (J .height) 0 0 → check (s .job) given (s .table) (s .board) ≡ passed
       → Course (serviceOf Given check unit) (aimOf K) F (K .shape .noneLength) Service.infeasible (s .board) s
@@ -157,8 +175,9 @@ module _ (Given : Type 0) (check : Job → Given → List ℕ → List ℕ → A
       go (Completion.toNone n′ c) =
           let lasts : Lasts (machine J) first (K .shape .noneLength) = rw (L .length-none) at (c .lasts) in
           let ends : after (K .shape .noneLength) ≡ noneEnd J (L .course) (s .table) (s .board) = ap after (sym (L .length-none)) ∙ c .end in
-          goes-along (K .shape .noneLength) Service.infeasible (s .board) lasts (L .shorter) (R .1)
-          (λ e i. infeasible-says (e .job .stage) (ap markAt (i ∙ ends))) (λ m l e i n. refl) (ap boardIn ends)
+          goes-along (K .shape .noneLength) Service.infeasible (s .board) lasts (L .shorter) (R .1) (R .0)
+          (λ e i. infeasible-says (e .job .stage) (ap markAt (i ∙ ends)))
+          (λ m l p. absurd (omega (arith, rows-held-none m (ap markAt ends) lasts l))) (ap boardIn ends)
 
   comes : Comes (serviceOf Given check unit) (aimOf K) F s
   comes = go (elimination-solves (J .kind) (J .height) (L .laws) (J .height) 0 0 (omega arith))
@@ -168,13 +187,16 @@ module _ (Given : Type 0) (check : Job → Given → List ℕ → List ℕ → A
       go (anEnding T) =
           toBoard (L .boardOf rows) (Service.finished (K .score (L .boardOf rows))) (record { wanted = L .best worth rows T .0; says = refl }) (board-course T)
 
+  none-yet : rowsIn K (s .job) ≡ 0
+  none-yet = rows-chosen-none (K .shape) (s .job .units) (markOf (s .job .stage)) (ap (K .shape .chosen) (B .units) ∙ L .numbered .shaped .none-chosen)
+
   -- nothing is done at unit 0
   begins : (wanted : List ℕ) → K .Progress wanted s s
   begins wanted =
-      L .progress wanted s s (B .of) (B .fits) (λ m. absurd (omega (arith, B .mark)))
+      L .progress wanted s s (B .of) (B .fits) (λ p. absurd (omega (arith, none-yet)))
       (rw (B .units) (record { size = refl; right = λ p k j S. absurd (omega (arith, S .before)); rest = λ p f. refl }))
-      (let k : K .shape .chosen (s .job .units) ≡ 0 = ap (K .shape .chosen) (B .units) ∙ L .numbered .shaped .none-chosen in
-      rw k (record { size = refl; rows = λ p l. absurd (omega arith); rest = λ p l. refl }))
+      (rw none-yet (record { size = refl; rows = λ p l. absurd (omega arith); rest = λ p l. refl }))
+      (rw (none-yet, B .above, B .last, B .live) (subst (λ (x : ℕ). Carried (K .setup) (L .read) 0 wanted 0 0 x) (L .zero-start) (carried-none (K .setup) (L .read) wanted)))
 
   lengths : 0 < K .shape .noneLength
   lengths = omega (arith, L .length-none)

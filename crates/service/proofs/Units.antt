@@ -4,27 +4,27 @@ use mathlib.Core.Path.{_≡_, refl, sym, _∙_, ap, ap₂, subst}
 use mathlib.Core.Bool.{Bool, true, false, cond, true≢false}
 use mathlib.Core.List.{List}
 use Prim.Native.Nat.{ℕ, zero, suc, _+_, _-_, _<_}
-use native.Mathlib.Numerals.{add-one}
 use native.Mathlib.Omega.{arith}
 use lib.Dec.{ltb}
 use Rattle.board.specs.Answers.{Answer}
 use Rattle.elimination.specs.Candidates.{Choice, nothing, chosen, Comparison, Found, noneFound, bestFound}
 use Rattle.elimination.specs.Endings.{Laws}
 use Rattle.elimination.specs.Kind.{Kind, choose, offer}
-use Rattle.elimination.specs.Table.{reads}
+use Rattle.elimination.specs.Table.{reads, fillEntry}
 use Rattle.elimination.specs.Task.{Task, fill, row}
+use Rattle.elimination.specs.Shape.{Numbers, afterEntry, afterRow, afterNone}
 use Rattle.elimination.specs.Job.{Mark, running, finished, infeasible, endMark, Setup, takeRow, act, actIf, unit, machine}
 use Rattle.elimination.specs.Job as Elimination
 use Rattle.elimination.proofs.Candidates.{scan-finds-best}
 use Rattle.elimination.proofs.Kind.{choose-scan}
-use Rattle.job.specs.Jobs.{aboveOf, lastOf, liveOf, markOf, numbersOf, jobOf, jobFits, checkpointFits}
+use Rattle.job.specs.Jobs.{aboveOf, lastOf, liveOf, markOf, numbersOf, jobOf, jobFits, checkpointFits, numbersWith, jobWith}
 use Rattle.job.specs.declared.Stage.{Stage}
 use Rattle.job.specs.declared.Job.{Job}
 use Rattle.job.specs.declared.Checkpoint.{Checkpoint}
 use Rattle.job.proofs.Checkpoints.{numbers-of-job, resumed-fits}
 use Rattle.service.specs.Service.{unfinished, stageSays, State, Step, next, spoiled, Service}
 use Rattle.service.specs.Laws.{Follows}
-use Rattle.service.specs.Units.{entryNumbers, rowNumbers, noneNumbers, rowStep, taskStep, markStep, unitBy, Continues}
+use Rattle.service.specs.Units.{here, rowStep, taskStep, markStep, unitBy, Continues}
 
 -- ---- the machine's view
 abbrev pub markIn : ℕ → Mark
@@ -78,26 +78,33 @@ module _ (J : Setup ℕ (List ℕ)) (L : Laws (J .kind) (J .height)) (Of : Job �
   Steps (next s′) s = Here s′ × (view s′ ≡ machine J .unit (view s))
   Steps spoiled s = (machine J .unit (view s) ≡ view s) × (Elimination.ended (view s) ≡ false)
 
-  moved : (s : State (List ℕ)) → Here s → (t : Checkpoint) → t .width ≡ s .job .width → t .height ≡ s .job .height → t .births ≡ s .job .rule .births
-      → t .survivals ≡ s .job .rule .survivals → checkpointFits t ≡ true → (table board : List ℕ) → viewOf t table board ≡ machine J .unit (view s)
-      → Steps (next record { job = jobOf t; table = table; board = board }) s
-  moved s H t w h b v f table board e =
-      (record { of = C .same (s .job) t (H .of) w h b v; taken = resumed-fits t f }, view-of t table board f ∙ e)
+  moved : (s : State (List ℕ)) → Here s → (n : Numbers) → checkpointFits (numbersWith (s .job) n) ≡ true → (table board : List ℕ)
+      → viewOf (numbersWith (s .job) n) table board ≡ machine J .unit (view s) → Steps (next record { job = jobWith (s .job) n; table = table; board = board }) s
+  moved s H n f table board e =
+      let t = numbersWith (s .job) n in
+      (record { of = C .same (s .job) t (H .of) refl refl refl refl; taken = resumed-fits t f }, view-of t table board f ∙ e)
 
   row-law : (s : State (List ℕ)) → Here s → markOf (s .job .stage) ≡ 0 → (r source : ℕ) → J .plan (s .job .units) ≡ row r source
       → (o : Choice ℕ) → RowBelow (J .kind .codes) o → machine J .unit (view s) ≡ takeRow J r (view s) o → Steps (rowStep J r s o) s
   row-law s H m r source p (chosen c v) l e =
       let n = J .kind .add (J .height - suc r) c (liveOf (s .job .stage)) in
-      moved s H (rowNumbers (J .height) r (s .job) c n) refl refl refl refl (C .after-row (s .job) (H .of) (H .taken) m r source p c l) (s .table) (J .write r c (s .board))
-      (rw (add-one (s .job .units), mark-more (ltb (r + 1) (J .height)), add-one r) (sym e))
+      moved s H (afterRow (J .height) r c n (here (s .job))) (C .after-row (s .job) (H .of) (H .taken) m r source p c l) (s .table) (J .write r c (s .board))
+      (rw (mark-more (ltb (suc r) (J .height))) (sym e))
   row-law s H m zero source p nothing l e =
-      moved s H (noneNumbers (s .job)) refl refl refl refl (C .after-none (s .job) (H .of) (H .taken) m source p) (s .table) (s .board) (rw (add-one (s .job .units)) (sym e))
+      moved s H (afterNone (here (s .job))) (C .after-none (s .job) (H .of) (H .taken) m source p) (s .table) (s .board) (sym e)
   row-law s H m (suc r) source p nothing l e = (e, rw m)
 
   task-law : (s : State (List ℕ)) → Here s → markOf (s .job .stage) ≡ 0 → (o : Task) → J .plan (s .job .units) ≡ o
       → machine J .unit (view s) ≡ act J o (view s) → Steps (taskStep J o s) s
   task-law s H m (fill k source target i) p e =
-      moved s H (entryNumbers (s .job)) refl refl refl refl (C .after-entry (s .job) (H .of) (H .taken) m k source target i p) _ (s .board) (rw (add-one (s .job .units)) (sym e))
+      moved s H (afterEntry (here (s .job))) (C .after-entry (s .job) (H .of) (H .taken) m k source target i p)
+      (fillEntry (J .kind) k source target i (s .table)) (s .board) (ap marked (sym m) ∙ sym e)
+    where
+      marked : ℕ → Elimination.State ℕ (List ℕ)
+      marked x =
+          viewOf
+          (numbersWith (s .job) (record { units = suc (s .job .units); above = aboveOf (s .job .stage); last = lastOf (s .job .stage); live = liveOf (s .job .stage); mark = x }))
+          (fillEntry (J .kind) k source target i (s .table)) (s .board)
   task-law s H m (row r source) p e =
       let a = aboveOf (s .job .stage) in
       let b = lastOf (s .job .stage) in

@@ -3,7 +3,7 @@
 use mathlib.Core.Path.{_≡_}
 use mathlib.Core.Bool.{true}
 use mathlib.Core.List.{List}
-use Prim.Native.Nat.{ℕ, suc, _≤_, _<_}
+use Prim.Native.Nat.{ℕ, suc, _*_, _≤_, _<_}
 use lib.ListN.{length}
 use Rattle.board.specs.Answers.{Answer, passed}
 use Rattle.elimination.specs.Endings.{Ending, NoEnding, total, Laws}
@@ -12,8 +12,8 @@ use Rattle.elimination.specs.Job.{Setup}
 use Rattle.elimination.specs.Plan.{Schedule}
 use Rattle.elimination.specs.Completion.{writeRows}
 use Rattle.elimination.specs.Places.{Filled, Orderly, Scheduled}
-use Rattle.elimination.specs.Shape.{Shape}
-use Rattle.elimination.specs.Progress.{RowWriter, Written}
+use Rattle.elimination.specs.Shape.{Shape, rowsChosen}
+use Rattle.elimination.specs.Progress.{RowWriter, Written, Carried}
 use Rattle.job.specs.Jobs.{jobFits, markOf, liveOf, aboveOf, lastOf}
 use Rattle.job.specs.declared.Job.{Job}
 use Rattle.service.specs.Service.{finished, State, Step, Service}
@@ -38,6 +38,10 @@ pub record JobKind : Type 1 where
   pub score : List ℕ → ℕ
   -- this much is done, on the way to a board
   pub Progress : List ℕ → State (List ℕ) → State (List ℕ) → Type 0
+
+-- the rows that a job has chosen
+abbrev pub rowsIn : JobKind → Job → ℕ
+rowsIn K j = rowsChosen (K .shape) (j .units) (markOf (j .stage))
 
 -- what its jobs are to come to
 pub record Best (K : JobKind) (best : List ℕ) (final : Answer) : Type 0 where
@@ -76,19 +80,25 @@ module _ (Given : Type 0) (check : Job → Given → List ℕ → List ℕ → A
     pub checks : ChecksSound (serviceOf Given check unit)
     pub room : (j : Job) (t β : List ℕ) → K .Of j → check j given t β ≡ passed → (length β ≡ K .cells) × (K .shape .entries ≤ length t)
     pub zero-start : K .setup .kind .start ≡ 0
-    -- boards: rows are written within their cells; an ending's rows make one board wherever they are written, and the wanted ending the wanted board
-    pub writer : RowWriter (K .width) (K .setup .write)
+    -- boards: they are their rows, each written within its cells and read back from them; an ending's rows make one board wherever they are written,
+    -- and the wanted ending the wanted board
+    pub all-rows : K .setup .height * K .width ≡ K .cells
+    pub read : ℕ → List ℕ → ℕ
+    pub writer : RowWriter (K .width) (K .setup .kind .codes) (K .setup .write) read
     pub boardOf : List ℕ → List ℕ
     pub into : (rows : List ℕ) → Ending (K .setup .kind) (K .setup .height) 0 0 rows → (β : List ℕ) → length β ≡ K .cells
         → writeRows (K .setup .write) 0 rows β ≡ boardOf rows
     pub best : (x : ℕ) (rows : List ℕ) → Endings.Optimal (K .setup .kind) (K .setup .height) 0 0 x rows
         → K .Wanted (boardOf rows) × (K .score (boardOf rows) ≡ total (K .setup .kind) rows)
     pub none : NoEnding (K .setup .kind) (K .setup .height) 0 0 → (board : List ℕ) → K .Solution board → ⊥
-    -- what is done, in the kind's own words, from what m units have done to table and board
+    -- what is done, in the kind's own words, from what m units have done to table and board and from the rows and the worth that the job then carries;
+    -- once a row is chosen, the board that it is on the way to is the wanted one
     pub progress : (wanted : List ℕ) (before now : State (List ℕ)) → K .Of (now .job) → jobFits (now .job) ≡ true
-        → (markOf (now .job .stage) ≡ 2 → wanted ≡ before .board)
+        → (0 < rowsIn K (now .job) → K .Wanted wanted)
         → Filled (K .setup .kind) (K .setup .plan) (now .job .units) (before .table) (now .table)
-        → Written (K .width) (K .shape .chosen (now .job .units)) wanted (before .board) (now .board) → K .Progress wanted before now
+        → Written (K .width) (rowsIn K (now .job)) wanted (before .board) (now .board)
+        → Carried (K .setup) read (rowsIn K (now .job)) wanted (aboveOf (now .job .stage)) (lastOf (now .job .stage)) (liveOf (now .job .stage))
+        → K .Progress wanted before now
 
   -- a job as it was opened: at unit 0, running, with no rows
   pub record Opened (s : State (List ℕ)) : Type 0 where

@@ -16,11 +16,11 @@ use Rattle.elimination.specs.Sums.{sumKind}
 use Rattle.rule.specs.Rule.{Holds, entryOf}
 use Rattle.life.specs.Plane.{nine}
 use Rattle.life.specs.Rows.{cellOf, becomes, stepsTo, agree}
-use Rattle.score_table.specs.ScoreTable.{rules, kindOf}
+use Rattle.score_table.specs.ScoreTable.{absent, mostLive, rules, kindOf}
 use Rattle.score_table.specs.Inner.{Memory, EntryRead}
 use Rattle.score_table.specs.Calls.{fillWrites, rowPicked}
 use Rattle.score_table.proofs.Columns.{cell-small}
-use Rattle.score_table.proofs.Calls.{grid-fits, read-fits, fill-done, picked-choice}
+use Rattle.score_table.proofs.Calls.{call-fits, read-fits, fill-done, picked-choice}
 
 -- the pattern around a column is one of 512
 nine-small : (w a b c j : ℕ) → nine (cellOf w a) (cellOf w b) (cellOf w c) (pos j) < 512
@@ -38,6 +38,10 @@ nine-small w a b c j =
       cell-small w c (sucℤ (pos j)),
     )
 
+-- a grid's numbers can't be taken for none
+small : {w : ℕ} → w ≤ 10 → mostLive .limit + w < absent
+small l = omega arith
+
 module _ (next : ℕ → ℕ) (table : List ℕ) (H : Holds next table) where
   agree-same : (w a b c : ℕ) → agree (entryOf table) w a b c ≡ agree next w a b c
   unfolding stepsTo becomes
@@ -45,19 +49,19 @@ module _ (next : ℕ → ℕ) (table : List ℕ) (H : Holds next table) where
       ap (λ (f : ℕ → Bool). allBelow f (w + 2)) (fun-ext λ j. ap (λ (x : ℕ). eqb x (cellOf w b (pos j))) (H .entry _ (nine-small w a b c j)))
 
   kind-same : (w h : ℕ) (g : List ℕ) → kindOf (entryOf table) w h g ≡ kindOf next w h g
-  kind-same w h g = ap (λ (f : ℕ → ℕ → ℕ → Bool). sumKind (rules f w (λ k. (h - suc k) * w) g)) (fun-ext λ a. fun-ext λ b. fun-ext λ c. agree-same w a b c)
+  kind-same w h g = ap (λ (f : ℕ → ℕ → ℕ → Bool). sumKind (rules mostLive f w (λ k. (h - suc k) * w) g)) (fun-ext λ a. fun-ext λ b. fun-ext λ c. agree-same w a b c)
 
   module _ (w h : ℕ) (g t : List ℕ) where
     -- the filling of an entry
     pub filled : (k source target j : ℕ) → EntryRead w h k source j g t → target + 4 ^ w ≤ length t
-        → fillWrites (entryOf table) w h k source target j g t ≡ fillEntry (kindOf next w h g) k source target j t
+        → fillWrites mostLive (entryOf table) w h k source target j g t ≡ fillEntry (kindOf next w h g) k source target j t
     filled k source target j R l =
-        sym (fill-done w h g (entryOf table) k source target j t (read-fits w h g k source target j t R l))
+        sym (fill-done mostLive w h g (entryOf table) k source target j t (read-fits mostLive w h g k source target j t R (small (R .memory .narrow)) l))
         ∙ ap (λ (K : Kind ℕ). fillEntry K k source target j t) (kind-same w h g)
 
     -- the choice of a row
     pub picked : Memory w h g → (r source a b : ℕ) → r < h → source + 4 ^ w ≤ length t → a < 2 ^ w → b < 2 ^ w
-        → rowPicked (entryOf table) w h r source a b g t ≡ choose (kindOf next w h g) (h - suc r) a b (reads (kindOf next w h g) t source b)
+        → rowPicked mostLive (entryOf table) w h r source a b g t ≡ choose (kindOf next w h g) (h - suc r) a b (reads (kindOf next w h g) t source b)
     picked M r source a b l f m n =
-        picked-choice w h g (entryOf table) r source a b t (grid-fits w h g M) l (le-leb (source + 4 ^ w) (length t) f) m n
+        picked-choice mostLive w h g (entryOf table) r source a b t (call-fits mostLive w h g M (small (M .narrow))) l (le-leb (source + 4 ^ w) (length t) f) m n
         ∙ ap (λ (K : Kind ℕ). choose K (h - suc r) a b (reads K t source b)) (kind-same w h g)

@@ -1,7 +1,7 @@
 -- The kind of job that row elimination is put to is lawful, and its endings are the still boards that keep the givens.
 -- Assumes nothing.
 use mathlib.Core.Path.{_≡_, refl, sym, _∙_, ap, subst}
-use mathlib.Core.Bool.{Bool, true, false, cond, _&&_}
+use mathlib.Core.Bool.{Bool, true, _&&_}
 use mathlib.Core.List.{List, _∷_}
 use mathlib.Core.Logic.{⊎-elim}
 use Prim.Native.Nat.{ℕ, zero, suc, _+_, _*_, _-_, _≤_, _<_}
@@ -9,7 +9,7 @@ use native.Mathlib.Nat.{eq-or-lt-of-le, mul-le-mul-right}
 use native.Mathlib.Numerals.{add-one, add-two}
 use native.Mathlib.Omega.{arith}
 use borrow.Author.Tests.{eq-eqb, ne-eqb, eqb-true}
-use lib.Dec.{eqb, lit<}
+use lib.Dec.{lit<}
 use lib.ListN.{length, getD}
 use Rattle.board.specs.Boards.{Sized, Board}
 use Rattle.board.proofs.Search.{all-of, all-at}
@@ -25,7 +25,7 @@ use Rattle.life.proofs.OnPlane.{place-within}
 use Rattle.life.proofs.Theorems.{rows-life}
 use Rattle.solver.specs.Grid.{KeepsGivens, Solution, score}
 use Rattle.score_table.specs.Rows.{rowWorth, markKept, rowKept}
-use Rattle.score_table.specs.ScoreTable.{rules, kindOf}
+use Rattle.score_table.specs.ScoreTable.{mostLive, rules, kindOf}
 use Rattle.solver.specs.Theorems.{nextRows, allRows}
 use Rattle.job.proofs.Fits.{and-true}
 use Rattle.score_table.proofs.Marks.{MarkIs, isDead, isLive, isFree, mark-is, row-worth-le}
@@ -40,7 +40,7 @@ ends rule w a b = agree (nextUnder rule) w a b 0 && agree (nextUnder rule) w b 0
 
 pub kind-laws : (rule : Rule) (w h : ℕ) (g : List ℕ) → Sized w h → Laws (kind rule w h g) h
 kind-laws rule w h g z =
-    sums-lawful (rules (agree (nextUnder rule) w) w (λ k. (h - suc k) * w) g) h w
+    sums-lawful (rules mostLive (agree (nextUnder rule) w) w (λ k. (h - suc k) * w) g) h w
     (record { each = λ k c l. row-worth-le w g ((h - suc k) * w) c; within = omega (arith, mul-le-mul-right w (z .low), z .narrow); absent-above = lit< tt })
 
 -- ---- a mark that is kept, by the two states that a given cell may have

@@ -8,7 +8,6 @@ pub mod TableLaws
 pub mod Agreement
 pub mod Machine
 pub mod UnitLaws
-pub mod WorkLaws
 pub mod Steps
 pub mod CheckLaws
 pub mod Progress

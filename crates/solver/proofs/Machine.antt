@@ -37,7 +37,7 @@ module _ {rule : Rule} {w h : ℕ} (z : Frame rule w h) (g : List ℕ) where
     rows = refl;
     codes = refl;
     is = λ j O. ap₂ shapeOf (O .wide) (O .tall);
-    earns = λ k c n. (omega arith, omega (arith, row-worth-le w g ((h - suc k) * w) c));
+    earns = λ k c n. omega (arith, row-worth-le w g ((h - suc k) * w) c);
     same = λ j t O a b c d. record { ruled = ap₂ (λ (x y : ℕ). record { births = x; survivals = y }) c d ∙ O .ruled; wide = a ∙ O .wide; tall = b ∙ O .tall };
   }
 

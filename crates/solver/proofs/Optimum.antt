@@ -17,11 +17,12 @@ use Rattle.elimination.specs.Kind.{Kind}
 use Rattle.elimination.specs.Endings.{Ending, total}
 use Rattle.elimination.specs.Endings as Endings
 use Rattle.elimination.specs.Completion.{writeRows}
+use Rattle.elimination.specs.Progress.{RowWriter}
 use Rattle.elimination.proofs.Numbers.{lt-or-ge}
 use Rattle.elimination.proofs.Sums.{tied-equal}
 use Rattle.elimination.proofs.Endings.{ending-length}
 use Rattle.rule.specs.declared.Rule.{Rule}
-use Rattle.life.specs.Rows.{rowOf}
+use Rattle.life.specs.Rows.{rowNumber, rowOf}
 use Rattle.solver.specs.Grid.{Solution, score, Precedes, Optimal}
 use Rattle.solver.specs.Units.{putRow}
 use Rattle.solver.specs.Theorems.{nextRows, allRows}
@@ -35,11 +36,15 @@ use Rattle.solver.proofs.Endings.{kind, solution-ends, ends-solution, t
 abbrev Cells : List ℕ → ℕ → Type 0
 Cells board n = (p : ℕ) → p < n → getD board p 0 ≤ 1
 
+-- the row with r rows above it
+abbrev pub readRow : ℕ → ℕ → List ℕ → ℕ
+readRow w r board = rowNumber board (r * w) w
+
 module _ (w r c : ℕ) (β : List ℕ) where
-  pub put-before : (p : ℕ) → p < r * w → getD (putRow w r c β) p 0 ≡ getD β p 0
+  put-before : (p : ℕ) → p < r * w → getD (putRow w r c β) p 0 ≡ getD β p 0
   put-before p l = written-before w c β (r * w) w p l
 
-  pub put-after : (p : ℕ) → suc r * w ≤ p → getD (putRow w r c β) p 0 ≡ getD β p 0
+  put-after : (p : ℕ) → suc r * w ≤ p → getD (putRow w r c β) p 0 ≡ getD β p 0
   put-after p l = written-after w c β (r * w) w p (omega arith)
 
   put-cells : suc r * w ≤ length β → Cells β (r * w) → Cells (putRow w r c β) (suc r * w)
@@ -50,15 +55,32 @@ module _ (w r c : ℕ) (β : List ℕ) where
       subst (λ (x : ℕ). getD (putRow w r c β) x 0 ≤ 1) e (rw (written-cell w c β (r * w) w (p - r * w) (omega arith) (omega arith)) (omega arith)))
       (lt-or-ge p (r * w))
 
+  put-back : c < 2 ^ w → suc r * w ≤ length β → readRow w r (putRow w r c β) ≡ c
+  put-back l f = reads-back w c β (r * w) l (omega arith)
+
   module _ (h : ℕ) where
     put-same : r < h → c < 2 ^ w → suc r * w ≤ length β → rowOf w h (putRow w r c β) (suc r) ≡ c
-    put-same q l f = row-inside w h (putRow w r c β) r q ∙ reads-back w c β (r * w) l (omega arith)
+    put-same q l f = row-inside w h (putRow w r c β) r q ∙ put-back l f
 
     put-other : (i : ℕ) → i < r → r < h → rowOf w h (putRow w r c β) (suc i) ≡ rowOf w h β (suc i)
     put-other i l q =
         row-inside w h (putRow w r c β) i (omega arith)
         ∙ same-number (putRow w r c β) β (i * w) w (λ k m. put-before (i * w + k) (omega (arith, mul-le-mul-right w l)))
         ∙ sym (row-inside w h β i (omega arith))
+
+-- a row reads the same from equal bytes
+read-alike : (w r : ℕ) (β γ : List ℕ) → ((p : ℕ) → r * w ≤ p → p < suc r * w → getD β p 0 ≡ getD γ p 0) → readRow w r β ≡ readRow w r γ
+read-alike w r β γ e = same-number β γ (r * w) w (λ k l. e (r * w + k) (omega arith) (omega arith))
+
+-- so rows stand in a board, each in its own bytes
+pub row-writer : (w : ℕ) → RowWriter w (2 ^ w) (putRow w) (readRow w)
+row-writer w = record {
+  size = λ r c β. written-length w c β (r * w) w;
+  before = put-before w;
+  after = put-after w;
+  back = put-back w;
+  alike = read-alike w;
+}
 
 -- ---- many rows written
 -- every row is a row's number

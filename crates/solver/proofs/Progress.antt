@@ -1,29 +1,31 @@
 -- What is done by now, in the terms of a grid's table and board, from what the units of any plan leave.
 -- Assumes nothing.
-use mathlib.Core.Path.{_≡_, refl, sym, _∙_, ap, ap₂, subst}
-use mathlib.Core.Bool.{Bool, true, false, true≢false}
+use mathlib.Core.Path.{_≡_, refl, sym, _∙_, ap₂}
 use mathlib.Core.List.{List}
-use mathlib.Core.Logic.{⊎-elim}
-use Prim.Native.Nat.{ℕ, suc, _+_, _*_, _-_, _^_, _≤_, _<_, min}
+use Prim.Native.Nat.{ℕ, zero, suc, _+_, _*_, _-_, _^_, _≤_, _<_, min}
 use native.Mathlib.Omega.{arith}
-use lib.ListN.{length, getD}
 use Rattle.board.specs.Checks.{tableSize}
-use Rattle.elimination.specs.Filling.{rightAtUnit}
 use Rattle.elimination.specs.FillThenChoose.{plan}
 use Rattle.elimination.specs.Places as Places
-use Rattle.elimination.specs.Progress as Elimination
-use Rattle.elimination.proofs.Numbers.{lt-or-ge}
-use Rattle.elimination.proofs.Filling.{right-at-unit-entry}
-use Rattle.elimination.proofs.Table.{right-at-entry}
-use Rattle.elimination.proofs.Whole.{stands, writes-not}
+use Rattle.elimination.specs.Shape.{rowsChosen}
+use Rattle.elimination.specs.Progress.{Written, rowAt, worthSoFar, Carried}
+use Rattle.elimination.proofs.FillThenChoose.{stands, writes-not}
+use Rattle.elimination.proofs.Progress.{worth-none, worth-more}
 use Rattle.rule.specs.declared.Rule.{Rule}
-use Rattle.job.specs.Jobs.{markOf}
+use Rattle.board.specs.Boards.{Board}
+use Rattle.life.specs.Rows.{rowOf}
+use Rattle.score_table.specs.Rows.{rowWorth}
+use Rattle.service.specs.JobKinds.{rowsIn}
+use Rattle.job.specs.Jobs.{shapeOf, aboveOf, lastOf, liveOf, markOf}
 use Rattle.job.specs.declared.Stage.{Stage}
 use Rattle.job.proofs.Fits.{Frame, Fits}
 use Rattle.board.proofs.Powers.{table-four}
 use Rattle.score_table.proofs.Places.{place-same}
-use Rattle.solver.specs.Units.{State}
-use Rattle.solver.specs.Demand.{Filled, Written, chosenIn, chosenRows, idleUnits, Progress, Of}
+use Rattle.solver.specs.Grid.{score, Optimal}
+use Rattle.solver.specs.Units.{State, setupOf}
+use Rattle.solver.specs.Demand.{Filled, chosenIn, chosenRows, idleUnits, Progress, Of, gridKind}
+use Rattle.solver.proofs.RowLaws.{row-inside, row-none, score-more, score-none}
+use Rattle.solver.proofs.Optimum.{readRow}
 use Rattle.solver.proofs.Endings.{kind}
 use Rattle.solver.proofs.TableLaws.{right-same}
 
@@ -42,47 +44,54 @@ table-filled rule w h g m t₀ t F = record {
   right = λ u l.
       let b : u < h * (2 ^ w * 2 ^ w) = omega (arith, table-four w h) in
       let S = stands h (2 ^ w * 2 ^ w) u m b (omega arith) in
-      rw (place-same w h u, right-same rule w h g u) (F .right _ _ _ S ∙ right-at-entry (kind rule w h g) _ _ ∙ sym (right-at-unit-entry (kind rule w h g) u));
+      rw (place-same w h u, right-same rule w h g u) (F .right _ _ _ S);
   rest = λ p f. F .rest p (λ v l. writes-not h (2 ^ w * 2 ^ w) v p (λ b e. f v (omega (arith, table-four w h)) (e ∙ sym (place-same w h v))));
 }
 
-abbrev isFilling : Stage → Bool
-isFilling (Stage.Filling above last live) = true
-isFilling (Stage.Choosing above last live) = false
-isFilling (Stage.Finished above last score) = false
-isFilling Stage.Infeasible = false
-
-early : (w h u : ℕ) (s : Stage) → Fits w h u s → isFilling s ≡ true → u ≤ tableSize w h
-early w h u (Stage.Filling a l n) f e = omega (arith, f .until)
-early w h u (Stage.Choosing a l n) f e = absurd (true≢false (sym e))
-early w h u (Stage.Finished a l n) f e = absurd (true≢false (sym e))
-early w h u Stage.Infeasible f e = absurd (true≢false (sym e))
-
--- the board
-board-written : (w u : ℕ) (entries : ℕ) (s : Stage) (wanted β γ : List ℕ) → (s ≡ Stage.Infeasible → wanted ≡ β)
-    → Elimination.Written w (u - entries) wanted β γ → (isFilling s ≡ true → u ≤ entries) → Written w (chosenIn s (u - entries)) wanted β γ
-board-written w u entries (Stage.Filling a l m) wanted β γ n E f =
-    let k : u - entries ≡ 0 = omega (arith, f refl) in
-    let E₀ = rw k at E in record { size = E₀ .size; rows = E₀ .rows; rest = E₀ .rest }
-board-written w u entries (Stage.Choosing a l m) wanted β γ n E f = record { size = E .size; rows = E .rows; rest = E .rest }
-board-written w u entries (Stage.Finished a l m) wanted β γ n E f = record { size = E .size; rows = E .rows; rest = E .rest }
-board-written w u entries Stage.Infeasible wanted β γ n E f = record {
-  size = E .size;
-  rows = λ p l. absurd (omega arith);
-  rest = λ p l. ⊎-elim (λ (b : p < (u - entries) * w). E .rows p b ∙ ap (λ (x : List ℕ). getD x p 0) (n refl)) (λ (b : (u - entries) * w ≤ p). E .rest p b) (lt-or-ge p ((u - entries) * w));
-}
+-- the rows chosen are the shape's
+chosen-same : (w h u : ℕ) (s : Stage) → Fits w h u s → chosenIn s (u - tableSize w h) ≡ rowsChosen (shapeOf w h) u (markOf s)
+unfolding rowsChosen
+chosen-same w h u (Stage.Filling a l n) f = omega (arith, f .until)
+chosen-same w h u (Stage.Choosing a l n) f = refl
+chosen-same w h u (Stage.Finished a l n) f = refl
+chosen-same w h u Stage.Infeasible f = refl
 
 module _ {rule : Rule} {w h : ℕ} (z : Frame rule w h) (g : List ℕ) where
+  -- row i, counted from 1
+  row-same : (wanted : List ℕ) (i : ℕ) → i ≤ h → rowAt (readRow w) wanted i ≡ rowOf w h wanted i
+  row-same wanted zero l = sym (row-none w h wanted)
+  row-same wanted (suc r) l = sym (row-inside w h wanted r l)
+
+  -- what the first k rows of a board are worth is their score
+  worth-score : {wanted : List ℕ} → Board w h wanted → (k : ℕ) → k ≤ h → worthSoFar (setupOf rule w h g) (readRow w) wanted k ≡ score w k g wanted
+  worth-score {wanted} B zero l = worth-none (setupOf rule w h g) (readRow w) wanted ∙ sym (score-none w g wanted)
+  worth-score {wanted} B (suc r) l =
+      let e : h - suc (h - suc r) ≡ r = omega arith in
+      let m : rowWorth w g ((h - suc (h - suc r)) * w) (readRow w r wanted) ≡ rowWorth w g (r * w) (rowOf w h wanted (suc r)) =
+      ap₂ (λ (x c : ℕ). rowWorth w g (x * w) c) e (row-same wanted (suc r) l) in
+      worth-more (setupOf rule w h g) (readRow w) wanted r ∙ omega (arith, m, worth-score B r (omega arith), score-more B g r l)
+
+  carried-score : (wanted : List ℕ) (k x : ℕ) → (0 < k → Optimal rule w h g wanted) → k ≤ h → x ≡ worthSoFar (setupOf rule w h g) (readRow w) wanted k → x ≡ score w k g wanted
+  carried-score wanted zero x o l e = e ∙ worth-none (setupOf rule w h g) (readRow w) wanted ∙ sym (score-none w g wanted)
+  carried-score wanted (suc k) x o l e = e ∙ worth-score (o (omega arith) .solution .grid) (suc k) l
+
   pub progress : (wanted : List ℕ) (before now : State) → Of rule w h (now .job) → Fits w h (now .job .units) (now .job .stage)
-      → (markOf (now .job .stage) ≡ 2 → wanted ≡ before .board)
+      → (0 < rowsIn (gridKind rule w h g) (now .job) → Optimal rule w h g wanted)
       → Places.Filled (kind rule w h g) (plan h (2 ^ w * 2 ^ w)) (now .job .units) (before .table) (now .table)
-      → Elimination.Written w (now .job .units - tableSize w h) wanted (before .board) (now .board) → Progress rule w h g wanted before now
-  progress wanted before now O f n F E = record {
-    ruled = O .ruled;
-    width = O .wide;
-    height = O .tall;
-    units = units-split w h (now .job .units) (now .job .stage) f;
-    filled = table-filled rule w h g (now .job .units) (before .table) (now .table) F;
-    written = board-written w (now .job .units) (tableSize w h) (now .job .stage) wanted (before .board) (now .board) (λ e. n (ap markOf e)) E
-        (early w h (now .job .units) (now .job .stage) f);
-  }
+      → Written w (rowsIn (gridKind rule w h g) (now .job)) wanted (before .board) (now .board)
+      → Carried (setupOf rule w h g) (readRow w) (rowsIn (gridKind rule w h g) (now .job)) wanted (aboveOf (now .job .stage)) (lastOf (now .job .stage)) (liveOf (now .job .stage))
+      → Progress rule w h g wanted before now
+  progress wanted before now O f o F E C =
+      let s = now .job .stage in
+      let k = rowsIn (gridKind rule w h g) (now .job) in
+      let e : chosenRows w h (now .job) ≡ k = chosen-same w h (now .job .units) s f in record {
+        ruled = O .ruled;
+        width = O .wide;
+        height = O .tall;
+        units = units-split w h (now .job .units) s f;
+        filled = table-filled rule w h g (now .job .units) (before .table) (now .table) F;
+        written = rw e E;
+        above = rw e (C .above ∙ row-same wanted (k - 1) (omega (arith, C .few)));
+        last = rw e (C .last ∙ row-same wanted k (C .few));
+        live = rw e (carried-score wanted k (liveOf s) o (C .few) (C .soFar));
+      }

@@ -20,7 +20,7 @@ use Rattle.elimination.proofs.Sums.{tied-equal}
 use Rattle.elimination.proofs.Endings.{total-none, total-more, elimination-solves, ending-counts}
 use Rattle.solver.specs.Grid.{Solution, BestBy, score, population}
 use Rattle.score_table.specs.Rows.{cellWorth, rowWorth}
-use Rattle.score_table.specs.ScoreTable.{readsOf}
+use Rattle.score_table.specs.ScoreTable.{absent, mostLive, readsOf}
 use Rattle.solver.specs.Theorems as Theorems
 use Rattle.solver.specs.Theorems.{allRows, EndingsAreSolutions, BestOrNone, best, none, ChoiceIsOptimal, rowsWorth, Greatest, greatest, RightLayer, EntriesRight, givenLive, GivensApart, SameBest}
 use Rattle.score_table.proofs.Marks.{MarkIs, isDead, isLive, isFree, mark-is, worth-dead, worth-live, worth-free}
@@ -58,7 +58,7 @@ module _ (rule : Rule) {w h : ℕ} (z : Sized w h) (g : List ℕ) where
       go (anEnding T) =
           let cs = rightRows (kind rule w h g) k a b in
           greatest cs (T .lawful) (worth-total rule w h g cs ∙ tied-equal false (T .worth))
-          (leb-true (rightEntry (kind rule w h g) k a b) 600 (ending-counts (kind rule w h g) (kind-laws rule w h g z) k a b l cs (T .lawful))) (λ ds D. most ds (T .unbeaten ds D))
+          (leb-true (rightEntry (kind rule w h g) k a b) (mostLive .limit) (ending-counts (kind rule w h g) (kind-laws rule w h g z) k a b l cs (T .lawful))) (λ ds D. most ds (T .unbeaten ds D))
         where
           most : (ds : List ℕ) → NoBetterRows (kind rule w h g .comparison) (total (kind rule w h g) ds) ds (rightEntry (kind rule w h g) k a b) (rightRows (kind rule w h g) k a b)
               → rowsWorth w h g ds ≤ rightEntry (kind rule w h g) k a b
@@ -72,7 +72,7 @@ module _ (rule : Rule) {w h : ℕ} (z : Sized w h) (g : List ℕ) where
   rule-right i a b l t right (suc k) e =
       let d : h - (i + 1) ≡ k = omega arith in
       entry-more (kind rule w h g) k a b (readsOf w t (i + 1) b)
-      ∙ ap (worthOf 65535) (choose-ext (kind rule w h g) k a b (readsOf w t (i + 1) b) (rightEntry (kind rule w h g) k b) (λ c m. rw d at (right (omega arith) b c l m)))
+      ∙ ap (worthOf absent) (choose-ext (kind rule w h g) k a b (readsOf w t (i + 1) b) (rightEntry (kind rule w h g) k b) (λ c m. rw d at (right (omega arith) b c l m)))
       ∙ sym (right-entry-more (kind rule w h g) k a b ∙ entry-more (kind rule w h g) k a b (rightEntry (kind rule w h g) k b))
 
 pub entries-right : EntriesRight

@@ -2,24 +2,19 @@
 -- Assumes nothing.
 use mathlib.Core.Path.{_≡_, refl, sym, _∙_, ap, subst}
 use mathlib.Core.List.{List}
-use Prim.Native.Nat.{ℕ, suc, _+_, _*_, _-_, _^_, _≤_, _<_}
-use native.Mathlib.Nat.{mul-le-mul}
+use Prim.Native.Nat.{ℕ, _+_, _*_, _-_, _^_, _<_}
+use native.Mathlib.Nat.{mul-le-mul, mul-comm}
 use native.Mathlib.Omega.{arith}
 use lib.Pow.{pow-pos}
-use lib.ListN.{length}
-use Rattle.board.specs.Answers.{gives, passed, _then_}
-use Rattle.board.specs.Checks.{tableSize}
+use Rattle.board.specs.Answers.{gives, _then_}
 use Rattle.board.proofs.Answers.{then-gives}
 use Rattle.board.proofs.Powers.{four-two, table-four}
 use Rattle.rule.specs.Rule.{gridCheck}
 use Rattle.rule.specs.declared.Rule.{Rule}
 use Rattle.rule.proofs.Rules.{grid-allowed}
-use Rattle.elimination.specs.FillThenChoose.{plan, schedule}
-use Rattle.elimination.specs.Places.{Orderly, Scheduled}
+use Rattle.elimination.specs.FillThenChoose.{schedule}
 use Rattle.elimination.specs.Shape.{Shape}
-use Rattle.elimination.specs.Progress.{RowWriter}
-use Rattle.elimination.proofs.FillThenChoose.{schedule-lengths}
-use Rattle.elimination.proofs.Whole.{orderly, scheduled}
+use Rattle.elimination.proofs.FillThenChoose.{orderly, scheduled, schedule-lengths}
 use Rattle.job.specs.Jobs.{boardLength, start, jobSays, readCheck, openRule, openedSays}
 use Rattle.job.specs.declared.Job.{Job}
 use Rattle.job.proofs.Shapes.{shape-is}
@@ -28,12 +23,11 @@ use Rattle.service.specs.Demand.{Demand}
 use Rattle.service.specs.JobKinds.{aimOf, KindLaws}
 use Rattle.service.proofs.JobKinds.{kind-meets-demand}
 use Rattle.solver.specs.Working.{lentCheck}
-use Rattle.solver.specs.Units.{putRow, unitOf, grid}
+use Rattle.solver.specs.Units.{unitOf, grid}
 use Rattle.solver.specs.Demand.{gridKind, ThirdDemand}
 use Rattle.solver.specs.Theorems.{allRows}
-use Rattle.solver.proofs.Writing.{written-length}
-use Rattle.solver.proofs.Endings.{kind, kind-laws, solution-ends}
-use Rattle.solver.proofs.Optimum.{put-before, put-after, boardOf, into-same, is-total, optimal}
+use Rattle.solver.proofs.Endings.{kind-laws, solution-ends}
+use Rattle.solver.proofs.Optimum.{readRow, row-writer, boardOf, into-same, is-total, optimal}
 use Rattle.solver.proofs.CheckLaws.{checks-sound, lent-passed}
 use Rattle.solver.proofs.Machine.{fits-here, numbered, unit-same}
 use Rattle.solver.proofs.Progress.{progress}
@@ -61,16 +55,14 @@ module _ {rule : Rule} {w h : ℕ} (z : Frame rule w h) (g : List ℕ) where
     checks = checks-sound;
     room = λ j t β O p. let L = lent-passed j g t β p in (rw (O .wide, O .tall) at (L .0), rw (O .wide, O .tall) at (L .1));
     zero-start = refl;
-    writer = record {
-      size = λ r c β. written-length w c β (r * w) w;
-      before = λ r c β p l. put-before w r c β p l;
-      after = λ r c β p l. put-after w r c β p l;
-    };
+    all-rows = mul-comm h w;
+    read = readRow w;
+    writer = row-writer w;
     boardOf = boardOf w h;
     into = λ rows E β size. into-same z g rows E β size;
     best = λ x rows T. (optimal z g x rows T, is-total z g x rows T);
     none = λ n b S. n (allRows w h b) (solution-ends (z .allowed) (S .grid) g S);
-    progress = λ wanted before now O f n F E. progress z g wanted before now O (fits-here z g (now .job) O f) n F E;
+    progress = λ wanted before now O f o F E C. progress z g wanted before now O (fits-here z g (now .job) O f) o F E C;
   }
 
 -- ---- the theorem

@@ -22,11 +22,10 @@ use Rattle.service.specs.Service.{next, spoiled}
 use Rattle.solver.specs.Units.{State, Step, setupOf, unitOf}
 use Rattle.solver.specs.Inner.{Lent, Chooses}
 use Rattle.score_table.specs.Inner.{Memory, EntryRead}
-use Rattle.job.specs.declared.Stage.{Stage}
 use Rattle.job.specs.declared.Job.{Job}
-use Rattle.job.proofs.Shapes.{fill-at, row-at, layer-in}
-use Rattle.job.proofs.Fits.{Choosing, fits-at}
-use Rattle.job.proofs.Next.{fits-choosing, chooses-stage}
+use Rattle.job.proofs.Shapes.{board-long, fill-at, row-at, layer-in}
+use Rattle.job.proofs.Fits.{fits-at}
+use Rattle.job.proofs.Next.{fits-until}
 use Rattle.solver.proofs.Writing.{written-length}
 use Rattle.solver.proofs.Machine.{follows}
 
@@ -103,27 +102,14 @@ lent-read {j} {g} {t} {β} {k} {source} {target} {i} L p =
       omega (arith, F .writes, L .entries),
     )
 
--- where a row is to be chosen
-pub choosing : {j : Job} {r source : ℕ} {g t β : List ℕ} (C : Chooses j r source g t β)
-    → j .stage ≡ Stage.Choosing (aboveOf (j .stage)) (lastOf (j .stage)) (liveOf (j .stage))
-choosing {j} C = chooses-stage j (C .lent .taken) (C .running) (ap isFill (C .task))
-
-pub chooses-at : {j : Job} {r source : ℕ} {g t β : List ℕ} (C : Chooses j r source g t β)
-    → Choosing (j .width) (j .height) (j .units) (aboveOf (j .stage)) (lastOf (j .stage)) (liveOf (j .stage))
-chooses-at {j} C = fits-choosing j (C .lent .taken) (choosing C)
-
--- it is one of the board's, and its layer lies within the table
+-- where a row is to be chosen: it is one of the board's, and its layer lies within the table
 pub record RowIn (j : Job) (r source : ℕ) (t : List ℕ) : Type 0 where
-  pub rows : r ≡ j .units - tableSize (j .width) (j .height)
   pub inside : r < j .height
   pub layer : source + 4 ^ j .width ≤ length t
 
 pub row-in : {j : Job} {r source : ℕ} {g t β : List ℕ} → Chooses j r source g t β → RowIn j r source t
 row-in {j} {r} {source} C =
     let R = row-at (j .width) (j .height) (j .units) r source (C .task) in
-    let F = chooses-at C in
-    let l : r < j .height = omega (arith, R .rows, R .from, F .until) in record {
-      rows = R .rows;
-      inside = l;
-      layer = omega (arith, R .layer, layer-in (j .width) (j .height) r l, C .lent .entries);
-    }
+    let u = fits-until j (C .lent .taken) (C .running) in
+    let l : r < j .height = omega (arith, R .rows, R .from, u, board-long (j .width) (j .height)) in
+    record { inside = l; layer = omega (arith, R .layer, layer-in (j .width) (j .height) r l, C .lent .entries) }

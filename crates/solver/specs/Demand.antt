@@ -3,15 +3,17 @@
 -- Assumes nothing.
 use mathlib.Core.Path.{_≡_}
 use mathlib.Core.List.{List}
-use Prim.Native.Nat.{ℕ, _+_, _-_, _*_, _≤_, _<_, min}
+use Prim.Native.Nat.{ℕ, _+_, _-_, _*_, _<_, min}
 use lib.ListN.{length, getD}
 use Rattle.elimination.specs.Kind.{rightEntry}
+use Rattle.elimination.specs.Progress.{Written}
 use Rattle.rule.specs.Rule.{nextUnder}
 use Rattle.rule.specs.declared.Rule.{Rule}
 use Rattle.solver.specs.Grid.{Solution, Optimal, score}
 use Rattle.score_table.specs.ScoreTable.{kindOf, rowsAfter, rowA, rowB, unitPlace}
 use Rattle.board.specs.Checks.{tableSize}
-use Rattle.job.specs.Jobs.{shapeOf}
+use Rattle.life.specs.Rows.{rowOf}
+use Rattle.job.specs.Jobs.{shapeOf, aboveOf, lastOf, liveOf}
 use Rattle.job.specs.Calls.{Opens}
 use Rattle.job.specs.declared.Stage.{Stage}
 use Rattle.job.specs.declared.Job.{Job}
@@ -31,12 +33,6 @@ pub record Filled (rule : Rule) (w h : ℕ) (givens : List ℕ) (n : ℕ) (befor
   pub size : length now ≡ length before
   pub right : (u : ℕ) → u < n → getD now (unitPlace w h u) 0 ≡ rightUnit rule w h givens u
   pub rest : (p : ℕ) → ((u : ℕ) → u < n → p ≡ unitPlace w h u → ⊥) → getD now p 0 ≡ getD before p 0
-
--- the first k rows are the wanted board's, and every other byte of the board is what it was
-pub record Written (w k : ℕ) (wanted before now : List ℕ) : Type 0 where
-  pub size : length now ≡ length before
-  pub rows : (p : ℕ) → p < k * w → getD now p 0 ≡ getD wanted p 0
-  pub rest : (p : ℕ) → k * w ≤ p → getD now p 0 ≡ getD before p 0
 
 -- the entries written; the rows chosen, which are the units beyond; and the one unit of a job that ended with none, which writes and chooses nothing
 abbrev pub entriesWritten : ℕ → ℕ → Job → ℕ
@@ -65,6 +61,11 @@ pub record Progress (rule : Rule) (w h : ℕ) (givens wanted : List ℕ) (before
   pub units : now .job .units ≡ entriesWritten w h (now .job) + chosenRows w h (now .job) + idleUnits (now .job .stage)
   pub filled : Filled rule w h givens (entriesWritten w h (now .job)) (before .table) (now .table)
   pub written : Written w (chosenRows w h (now .job)) wanted (before .board) (now .board)
+  -- with k rows chosen, row above is row k - 1 of the wanted board and last row is row k, each 0 until such a row is chosen; the live cells so far are
+  -- the score of its first k rows
+  pub above : aboveOf (now .job .stage) ≡ rowOf w h wanted (chosenRows w h (now .job) - 1)
+  pub last : lastOf (now .job .stage) ≡ rowOf w h wanted (chosenRows w h (now .job))
+  pub live : liveOf (now .job .stage) ≡ score w (chosenRows w h (now .job)) givens wanted
 
 -- ---- the claim
 -- a job of this rule and grid

@@ -1,7 +1,7 @@
 -- What the inner functions are lent and answer, in the terms of a unit.
 -- Assumes nothing.
 use mathlib.Core.Path.{_≡_}
-use mathlib.Core.Bool.{Bool, true, false}
+use mathlib.Core.Bool.{true}
 use mathlib.Core.List.{List}
 use Prim.Native.Nat.{ℕ, _*_, _≤_}
 use lib.ListN.{length}
@@ -11,15 +11,7 @@ use Rattle.job.specs.Jobs.{shapeOf, markOf, jobFits}
 use Rattle.service.specs.Service.{next, spoiled}
 use Rattle.solver.specs.Units.{State, Step, unitOf}
 use Rattle.solver.specs.declared.choosing.Stepped.{Stepped}
-use Rattle.job.specs.declared.Stage.{Stage}
 use Rattle.job.specs.declared.Job.{Job}
-
--- the job has ended
-abbrev pub hasEnded : Stage → Bool
-hasEnded (Stage.Filling above last live) = false
-hasEnded (Stage.Choosing above last live) = false
-hasEnded (Stage.Finished above last score) = true
-hasEnded Stage.Infeasible = true
 
 abbrev pub lentState : Job → List ℕ → List ℕ → State
 lentState j table board = record { job = j; table = table; board = board }
@@ -37,11 +29,13 @@ pub record Chooses (j : Job) (r source : ℕ) (givens table board : List ℕ) : 
   pub running : markOf (j .stage) ≡ 0
   pub task : shapeOf (j .width) (j .height) .plan (j .units) ≡ row r source
 
-abbrev pub stepOf : Stepped → List ℕ → List ℕ → Step
-stepOf (Stepped.Next j) table board = next (lentState j table board)
-stepOf Stepped.Spoiled table board = spoiled
+abbrev pub stepOf : Job → Stepped → List ℕ → List ℕ → Step
+stepOf j (Stepped.Next j′) table board = next (lentState j′ table board)
+stepOf j Stepped.Ended table board = next (lentState j table board)
+stepOf j Stepped.Spoiled table board = spoiled
 
--- a unit that can't be done writes nothing
+-- only a unit that is done writes
 pub record Moves (j : Job) (givens table board : List ℕ) (r : Stepped) (table′ board′ : List ℕ) : Type 0 where
-  pub step : stepOf r table′ board′ ≡ unitOf givens (lentState j table board)
-  pub same : r ≡ Stepped.Spoiled → (table′ ≡ table) × (board′ ≡ board)
+  pub step : stepOf j r table′ board′ ≡ unitOf givens (lentState j table board)
+  pub ended : r ≡ Stepped.Ended → (table′ ≡ table) × (board′ ≡ board)
+  pub spoiled : r ≡ Stepped.Spoiled → (table′ ≡ table) × (board′ ≡ board)

@@ -18,7 +18,7 @@ use Rattle.rule.specs.declared.Rule.{Rule}
 use Rattle.life.specs.Rows.{rowOf}
 use Rattle.solver.specs.Grid.{KeepsGivens, Solution, BestBy, Optimal, score, population}
 use Rattle.score_table.specs.Rows.{rowWorth}
-use Rattle.score_table.specs.ScoreTable.{kindOf, readsOf}
+use Rattle.score_table.specs.ScoreTable.{absent, mostLive, kindOf, readsOf}
 
 -- ---- boards and endings
 -- the k rows of a board that follow row r, as numbers
@@ -44,7 +44,7 @@ EndingsAreSolutions =
 pub data BestOrNone (rule : Rule) (w h : ℕ) (givens : List ℕ) : Type 0 where
   best : (board : List ℕ) → Optimal rule w h givens board → allRows w h board ≡ rightRows (kindOf (nextUnder rule) w h givens) h 0 0
       → score w h givens board ≡ rightEntry (kindOf (nextUnder rule) w h givens) h 0 0 → BestOrNone rule w h givens
-  none : ((board : List ℕ) → Solution rule w h givens board → ⊥) → rightEntry (kindOf (nextUnder rule) w h givens) h 0 0 ≡ 65535 → BestOrNone rule w h givens
+  none : ((board : List ℕ) → Solution rule w h givens board → ⊥) → rightEntry (kindOf (nextUnder rule) w h givens) h 0 0 ≡ absent → BestOrNone rule w h givens
 
 abbrev pub ChoiceIsOptimal : Type 0
 ChoiceIsOptimal = (rule : Rule) → Allowed rule → (w h : ℕ) (givens : List ℕ) → Sized w h → BestOrNone rule w h givens
@@ -55,11 +55,11 @@ unfoldable pub rowsWorth : ℕ → ℕ → List ℕ → List ℕ → ℕ
 rowsWorth w h givens [] = 0
 rowsWorth w h givens (c ∷ cs) = rowWorth w givens ((h - suc (length cs)) * w) c + rowsWorth w h givens cs
 
--- x is the greatest worth of k rows that end the board below a over b, or 65,535 where there are none such
+-- x is the greatest worth of k rows that end the board below a over b, which counts, or the number for none where there are none such
 pub data Greatest (rule : Rule) (w h : ℕ) (givens : List ℕ) (k a b x : ℕ) : Type 0 where
-  greatest : (cs : List ℕ) → GridEnding rule w h givens k a b cs → rowsWorth w h givens cs ≡ x → x ≤ 600
+  greatest : (cs : List ℕ) → GridEnding rule w h givens k a b cs → rowsWorth w h givens cs ≡ x → x ≤ mostLive .limit
       → ((ds : List ℕ) → GridEnding rule w h givens k a b ds → rowsWorth w h givens ds ≤ x) → Greatest rule w h givens k a b x
-  noEnding : ((ds : List ℕ) → GridEnding rule w h givens k a b ds → ⊥) → x ≡ 65535 → Greatest rule w h givens k a b x
+  noEnding : ((ds : List ℕ) → GridEnding rule w h givens k a b ds → ⊥) → x ≡ absent → Greatest rule w h givens k a b x
 
 -- layer i of a table is right: each of its entries (i, b, c) is the right one
 abbrev pub RightLayer : Rule → ℕ → ℕ → List ℕ → List ℕ → ℕ → Type 0

@@ -1,17 +1,19 @@
 // Choosing: one row of the board a unit.
-use job::Done;
+use job::Chosen;
 use job::Job;
 use score_table::Picked;
 ghost use mathlib.Core.Path.{_≡_};
+ghost use Rattle.board.specs.Boards.{maxWidth};
 ghost use Prim.Native.Nat.{_+_, _≤_};
 ghost use lib.ListN.{length};
 ghost use Rattle.rule.specs.Rule.{Holds, nextUnder};
 ghost use Rattle.solver.specs.Rows.{written};
 ghost use Rattle.solver.specs.Inner.{Chooses, Moves};
 
-// What a unit comes to: the next job, or no row can be chosen after row 1.
+// What a unit comes to: the next job; the job has ended; or no row can be chosen after row 1.
 pub enum Stepped {
     Next(Job),
+    Ended,
     Spoiled,
 }
 
@@ -32,23 +34,24 @@ pub fn choose(
     let w = job.width;
     let h = job.height;
     let t = job.numbers();
-    match score_table::choose_row(next, w, h, r, source, t.above, t.last, givens, table) {
+    let want = score_table::most_live();
+    match score_table::choose_row(next, want, w, h, r, source, t.above, t.last, givens, table) {
         Picked::Nothing => {
             if r != 0 {
                 return Stepped::Spoiled;
             }
-            Stepped::Next(job.after(Done::NoRow))
+            Stepped::Next(job.after(Chosen::Nothing))
         }
-        Picked::Row { row, worth, sum: _ } => {
+        Picked::Row { row, worth } => {
             write_row(w, row, board, r * w);
-            Stepped::Next(job.after(Done::Row { row, worth }))
+            Stepped::Next(job.after(Chosen::Row { row, worth }))
         }
     }
 }
 
 // Writes a row's cells into a board from a place on.
 fn write_row(w: usize, row: usize, board: &mut [u8], at: usize)
-    requires { ⌜ (w ≤ 10) × (at + w ≤ length (now board)) ⌝ }
+    requires { ⌜ (w ≤ maxWidth) × (at + w ≤ length (now board)) ⌝ }
     ensures { λ _. ⌜ now (board .exit) ≡ written w row (now (board .entry)) at w ⌝ }
 {
     for k in 0..w {

@@ -5,7 +5,7 @@ use crate::choosing;
 use crate::choosing::Stepped;
 use board::Check;
 use board::Refusal;
-use job::Done;
+use job::Chosen;
 use job::Job;
 use job::Paused;
 use job::Stage;
@@ -17,7 +17,7 @@ ghost use Rattle.service.specs.Service.{workCheck, worksOn, stageSays};
 ghost use Rattle.solver.specs.Working.{statusSays};
 ghost use Rattle.solver.specs.Units.{grid};
 ghost use Rattle.solver.specs.Calls.{resultOf};
-ghost use Rattle.solver.specs.Inner.{Lent, Moves, hasEnded, lentState};
+ghost use Rattle.solver.specs.Inner.{Lent, Moves, lentState};
 
 // The checks of a working call: 7 as pausing, then 3, 4, 5, 6.
 pub fn check_work(job: Job, givens: &[u8], table: &[u16], board: &[u8]) -> Check
@@ -34,10 +34,7 @@ pub fn check_work(job: Job, givens: &[u8], table: &[u16], board: &[u8]) -> Check
     if !board::has_length(board, w, h) {
         return Check::Refused(Refusal::BoardLength);
     }
-    if table.len() >> (2 * w) < h {
-        return Check::Refused(Refusal::ShortTable);
-    }
-    Check::Passed
+    board::check_table(w, h, table)
 }
 
 // The answer for a job in a stage.
@@ -64,39 +61,12 @@ fn status_of(stage: Stage) -> Status
     }
 }
 
-fn has_ended(stage: Stage) -> bool
-    ensures { λ r. ⌜ r ≡ hasEnded stage ⌝ }
-{
-    match stage {
-        Stage::Filling {
-            above: _,
-            last: _,
-            live: _,
-        } => false,
-        Stage::Choosing {
-            above: _,
-            last: _,
-            live: _,
-        } => false,
-        Stage::Finished {
-            above: _,
-            last: _,
-            score: _,
-        } => true,
-        Stage::Infeasible => true,
-    }
-}
-
-// One unit of a job that passed its checks; an ended job stays.
+// One unit of a job that passed its checks.
 fn unit(next: &[u8; 512], job: Job, givens: &[u8], table: &mut [u16], board: &mut [u8]) -> Stepped
     requires { ⌜ Holds (nextUnder (job .rule)) (now next) ⌝ }
     requires { ⌜ Lent job (now givens) (now table) (now board) ⌝ }
     ensures { λ r. ⌜ Moves job (now (givens .entry)) (now (table .entry)) (now (board .entry)) r (now (table .exit)) (now (board .exit)) ⌝ }
 {
-    let stage = job.stage;
-    if has_ended(stage) {
-        return Stepped::Next(job);
-    }
     match job.task() {
         Task::Fill {
             after,
@@ -104,8 +74,10 @@ fn unit(next: &[u8; 512], job: Job, givens: &[u8], table: &mut [u16], board: &mu
             target,
             entry,
         } => {
+            let want = score_table::most_live();
             score_table::fill(
                 next,
+                want,
                 job.width,
                 job.height,
                 after,
@@ -115,11 +87,12 @@ fn unit(next: &[u8; 512], job: Job, givens: &[u8], table: &mut [u16], board: &mu
                 givens,
                 table,
             );
-            Stepped::Next(job.after(Done::Entry))
+            Stepped::Next(job.after(Chosen::Nothing))
         }
         Task::Choose { row, source } => {
             choosing::choose(next, job, row, source, givens, table, board)
         }
+        Task::Nothing => Stepped::Ended,
     }
 }
 
@@ -142,13 +115,12 @@ pub fn work_on(
         if left == 0 {
             break;
         }
-        let stage = job.stage;
-        if has_ended(stage) {
-            break;
-        }
         match unit(&next, job, givens, table, board) {
             Stepped::Next(j) => {
                 job = j;
+            }
+            Stepped::Ended => {
+                break;
             }
             Stepped::Spoiled => {
                 return Worked {

@@ -1,5 +1,6 @@
 // Rows of cells as rows of letters.
 ghost use mathlib.Core.Path.{_≡_};
+ghost use Rattle.board.specs.Boards.{maxWidth, maxHeight};
 ghost use mathlib.Core.List.{_++_};
 ghost use Prim.Native.Nat.{_+_, _*_, _<_, _≤_};
 ghost use lib.ListN.{length, drop};
@@ -8,7 +9,7 @@ ghost use Rattle.writer.specs.Writing.{rowText, textLength, textOver};
 
 // Writes h rows of w cells as text.
 pub fn write_rows(w: usize, h: usize, cells: &[u8], text: &mut [u8])
-    requires { ⌜ (w ≤ 10) × (h ≤ 60) × (length (now cells) ≡ w * h) × (textLength w h ≤ length (now text)) ⌝ }
+    requires { ⌜ (w ≤ maxWidth) × (h ≤ maxHeight) × (length (now cells) ≡ w * h) × (textLength w h ≤ length (now text)) ⌝ }
     ensures { λ _. ⌜ now (text .exit) ≡ textOver w h (now (cells .entry)) (now (text .entry)) ⌝ }
 {
     for j in 0..h {

@@ -2,7 +2,7 @@
 -- Assumes nothing.
 use mathlib.Core.Path.{_≡_, _∙_, sym, ap}
 use mathlib.Core.Bool.{true}
-use Prim.Native.Nat.{ℕ, suc, _+_, _*_, _-_, _^_, _≤_, _<_}
+use Prim.Native.Nat.{suc, _+_, _*_, _-_, _^_, _≤_, _<_}
 use native.Mathlib.Nat.{mul-le-mul}
 use native.Mathlib.Omega.{arith}
 use borrow.Author.Needs.{needs}
@@ -11,20 +11,20 @@ use lib.ListN.{length}
 use Rattle.rule.specs.Rule.{entryOf}
 use Rattle.elimination.specs.Kind.{choose}
 use Rattle.elimination.specs.Table.{reads}
-use Rattle.score_table.specs.ScoreTable.{kindOf}
+use Rattle.score_table.specs.ScoreTable.{kindFor}
 use Rattle.score_table.specs.Inner.{Memory, choiceOf}
-use Rattle.score_table.specs.Calls.{gridFits, layerFits}
+use Rattle.score_table.specs.Calls.{callFits, layerFits}
 use Rattle.score_table.proofs.Entries.{row-room, layer-room, found-row}
-use Rattle.score_table.proofs.Calls.{grid-of, picks-unfit, picks-past, picks-short, picks-above, picks-last, picks-nothing, picks-row}
+use Rattle.score_table.proofs.Calls.{call-memory, picks-unfit, picks-past, picks-short, picks-above, picks-last, picks-choice}
 use Rattle.score_table.proofs.choose_row.Statement.{statement}
 use Rattle.score_table.proofs.choose_row.Tie as tie
 
 -- the givens fit, past the first test, and the layer, past the third
-fitting : (c : tie.Else1) → let g = c .before .before .before .before .args in gridFits (g .w) (g .h) (g .givens .now) ≡ true
+fitting : (c : tie.Else1) → let g = c .before .before .before .before .args in callFits (g .want) (g .w) (g .h) (g .givens .now) ≡ true
 fitting c = sym (c .before .fits2 .ensures) ∙ not-false _ (c .if1 .left)
 
 lent : (c : tie.Else1) → let g = c .before .before .before .before .args in Memory (g .w) (g .h) (g .givens .now)
-lent c = grid-of _ _ _ (fitting c)
+lent c = call-memory (c .before .before .before .before .args .want) _ _ _ (fitting c)
 
 layered : (c : tie.Else3) → let g = c .before .before .before .before .before .before .before .args in layerFits (g .w) (length (g .table .now)) (g .source) ≡ true
 layered c = sym (c .before .layer-fits .ensures) ∙ not-false _ (c .if3 .left)
@@ -53,18 +53,18 @@ first-room c = layer-room _ _ _ _ _ (c .before .before .row-codes .ensures .0) (
 -- what the search found is the rule's choice
 choice : (b : tie.After-best-row) → let g = b .before .before .before .before .before .before .before .before .before .before .before .args in
     choiceOf (b .best-row .result)
-    ≡ choose (kindOf (entryOf (g .next .now)) (g .w) (g .h) (g .givens .now)) (g .h - suc (g .r)) (g .above) (g .last)
-    (reads (kindOf (entryOf (g .next .now)) (g .w) (g .h) (g .givens .now)) (g .table .now) (g .source) (g .last))
-choice b = let d = b .before in found-row _ _ _ _ _ _ _ _ _ _ (rw (d .before .before .row-codes .ensures .0)) _ (b .best-row .ensures) (inside d)
+    ≡ choose (kindFor (g .want) (entryOf (g .next .now)) (g .w) (g .h) (g .givens .now)) (g .h - suc (g .r)) (g .above) (g .last)
+    (reads (kindFor (g .want) (entryOf (g .next .now)) (g .w) (g .h) (g .givens .now)) (g .table .now) (g .source) (g .last))
+choice b = let d = b .before in found-row _ _ _ _ _ _ _ _ _ _ _ (rw (d .before .before .row-codes .ensures .0)) _ (b .best-row .ensures) (inside d)
 
 fits-requires : tie.Need-fits-requires
 fits-requires c κs = search needs
 
 returns : tie.Need-returns
-returns c = picks-unfit _ _ _ _ _ _ _ _ _ (sym (c .before .fits2 .ensures) ∙ not-true _ (c .if1 .taken))
+returns c = picks-unfit _ _ _ _ _ _ _ _ _ _ (sym (c .before .fits2 .ensures) ∙ not-true _ (c .if1 .taken))
 
 returns-2 : tie.Need-returns-2
-returns-2 c = picks-past _ _ _ _ _ _ _ _ _ (fitting (c .before)) (c .if2 .taken)
+returns-2 c = picks-past _ _ _ _ _ _ _ _ _ _ (fitting (c .before)) (c .if2 .taken)
 
 layer-fits-requires : tie.Need-layer-fits-requires
 layer-fits-requires c κs = lent (c .before) .narrow
@@ -72,7 +72,7 @@ layer-fits-requires c κs = lent (c .before) .narrow
 returns-3 : tie.Need-returns-3
 returns-3 c =
     let d = c .before .before in
-    picks-short _ _ _ _ _ _ _ _ _ (fitting (d .before)) (d .if2 .left) (sym (c .before .layer-fits .ensures) ∙ not-true _ (c .if3 .taken))
+    picks-short _ _ _ _ _ _ _ _ _ _ (fitting (d .before)) (d .if2 .left) (sym (c .before .layer-fits .ensures) ∙ not-true _ (c .if3 .taken))
 
 row-codes-requires : tie.Need-row-codes-requires
 row-codes-requires c κs = lent (c .before .before .before) .narrow
@@ -81,14 +81,14 @@ returns-4 : tie.Need-returns-4
 returns-4 c =
     let e = c .before .before in
     let d = e .before .before in
-    picks-above _ _ _ _ _ _ _ _ _ (fitting (d .before)) (d .if2 .left) (layered e) (rw (c .before .row-codes .ensures .0) at (c .if4 .taken))
+    picks-above _ _ _ _ _ _ _ _ _ _ (fitting (d .before)) (d .if2 .left) (layered e) (rw (c .before .row-codes .ensures .0) at (c .if4 .taken))
 
 returns-5 : tie.Need-returns-5
 returns-5 c =
     let e = c .before .before .before in
     let d = e .before .before in
     let q = c .before .before .row-codes .ensures .0 in
-    picks-last _ _ _ _ _ _ _ _ _ (fitting (d .before)) (d .if2 .left) (layered e) (rw q at (c .before .if4 .left)) (rw q at (c .if5 .taken))
+    picks-last _ _ _ _ _ _ _ _ _ _ (fitting (d .before)) (d .if2 .left) (layered e) (rw q at (c .before .if4 .left)) (rw q at (c .if5 .taken))
 
 mul-at : tie.Need-mul-at
 mul-at c = omega (arith, cells-room c, cells-le c)
@@ -102,7 +102,7 @@ add-first c = omega (arith, first-room c)
 best-row-requires : tie.Need-best-row-requires
 best-row-requires c κs =
     let L = lent (c .before .before .before .before .before .before) in
-    (L .narrow, over c, below c, cells-room c, omega (arith, first-room c))
+    (L .narrow, over c, below c, below c, cells-room c, omega (arith, first-room c))
 
 enum-told : tie.Need-enum-told
 enum-told c = search needs
@@ -119,15 +119,16 @@ returns-6 : tie.Need-returns-6
 returns-6 c =
     let b = c .before .before in
     let d = b .before in
-    picks-nothing _ _ _ _ _ _ _ _ _ (fitting (d .before .before .before .before .before .before)) (inside d) (layered (d .before .before .before)) (over d) (below d)
+    picks-choice _ _ _ _ _ _ _ _ _ _ (fitting (d .before .before .before .before .before .before)) (inside d) (layered (d .before .before .before)) (over d) (below d)
     (sym (ap choiceOf (c .enum-told .given .1)) ∙ choice b)
 
 returns-7 : tie.Need-returns-7
 returns-7 c =
     let b = c .before .before .before .before in
     let d = b .before in
-    picks-row _ _ _ _ _ _ _ _ _ (fitting (d .before .before .before .before .before .before)) (inside d) (layered (d .before .before .before)) (over d) (below d) _ _ _
-    (sym (ap choiceOf (c .before .before .row .given .1)) ∙ choice b) (c .row-worth .ensures .0)
+    rw (c .row-worth .ensures .0)
+    (picks-choice _ _ _ _ _ _ _ _ _ _ (fitting (d .before .before .before .before .before .before)) (inside d) (layered (d .before .before .before)) (over d) (below d)
+    (sym (ap choiceOf (c .before .before .row .given .1)) ∙ choice b))
 
 pub choose-row-spec : {M : Type 1} → statement M
 choose-row-spec =

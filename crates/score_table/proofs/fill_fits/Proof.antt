@@ -2,17 +2,20 @@
 -- Assumes nothing.
 use mathlib.Core.Path.{_≡_, _∙_, sym}
 use mathlib.Core.Bool.{true}
-use Prim.Native.Nat.{_^_, _<_}
+use Prim.Native.Nat.{_^_, _<_, _≤_}
 use borrow.Author.Needs.{needs}
 use borrow.Author.Tests.{not-true, not-false}
-use Rattle.score_table.specs.Calls.{gridFits, layerFits}
-use Rattle.score_table.proofs.Calls.{grid-of, fits-unfit, fits-past, fits-outside, fits-target, fits-last, fits-source}
+use Rattle.score_table.specs.Calls.{callFits, layerFits}
+use Rattle.score_table.proofs.Calls.{call-memory, fits-unfit, fits-past, fits-outside, fits-target, fits-last, fits-source}
 use Rattle.score_table.proofs.fill_fits.Statement.{statement}
 use Rattle.score_table.proofs.fill_fits.Tie as tie
 
 -- what each test that is passed shows
-fitting : (c : tie.Else1) → let g = c .before .before .before .args in gridFits (g .w) (g .h) (g .givens .now) ≡ true
+fitting : (c : tie.Else1) → let g = c .before .before .before .args in callFits (g .want) (g .w) (g .h) (g .givens .now) ≡ true
 fitting c = sym (c .before .fits2 .ensures) ∙ not-false _ (c .if1 .left)
+
+narrow : (c : tie.Else1) → c .before .before .before .args .w ≤ 10
+narrow c = call-memory (c .before .before .before .args .want) _ _ _ (fitting c) .narrow
 
 inside : (c : tie.Else3) → let g = c .before .before .before .before .before .before .args in g .j < 4 ^ g .w
 inside c = rw (c .before .layer-size .ensures .0) at (c .if3 .left)
@@ -24,38 +27,38 @@ fits-requires : tie.Need-fits-requires
 fits-requires c κs = search needs
 
 returns : tie.Need-returns
-returns c = fits-unfit _ _ _ _ _ _ _ _ (sym (c .before .fits2 .ensures) ∙ not-true _ (c .if1 .taken))
+returns c = fits-unfit _ _ _ _ _ _ _ _ _ (sym (c .before .fits2 .ensures) ∙ not-true _ (c .if1 .taken))
 
 returns-2 : tie.Need-returns-2
-returns-2 c = fits-past _ _ _ _ _ _ _ _ (fitting (c .before)) (c .if2 .taken)
+returns-2 c = fits-past _ _ _ _ _ _ _ _ _ (fitting (c .before)) (c .if2 .taken)
 
 layer-size-requires : tie.Need-layer-size-requires
-layer-size-requires c κs = grid-of _ _ _ (fitting (c .before)) .narrow
+layer-size-requires c κs = narrow (c .before)
 
 returns-3 : tie.Need-returns-3
-returns-3 c = fits-outside _ _ _ _ _ _ _ _ (fitting (c .before .before .before)) (c .before .before .if2 .left) (rw (c .before .layer-size .ensures .0) at (c .if3 .taken))
+returns-3 c = fits-outside _ _ _ _ _ _ _ _ _ (fitting (c .before .before .before)) (c .before .before .if2 .left) (rw (c .before .layer-size .ensures .0) at (c .if3 .taken))
 
 layer-fits-requires : tie.Need-layer-fits-requires
-layer-fits-requires c κs = grid-of _ _ _ (fitting (c .before .before .before)) .narrow
+layer-fits-requires c κs = narrow (c .before .before .before)
 
 returns-4 : tie.Need-returns-4
 returns-4 c =
     let d = c .before .before in
-    fits-target _ _ _ _ _ _ _ _ (fitting (d .before .before .before)) (d .before .before .if2 .left) (inside d) (sym (c .before .layer-fits .ensures) ∙ not-true _ (c .if4 .taken))
+    fits-target _ _ _ _ _ _ _ _ _ (fitting (d .before .before .before)) (d .before .before .if2 .left) (inside d) (sym (c .before .layer-fits .ensures) ∙ not-true _ (c .if4 .taken))
 
 returns-5 : tie.Need-returns-5
 returns-5 c =
     let d = c .before .before .before in
-    fits-last _ _ _ _ _ _ _ _ (fitting (d .before .before .before)) (d .before .before .if2 .left) (inside d) (target-in (c .before)) (c .if5 .taken)
+    fits-last _ _ _ _ _ _ _ _ _ (fitting (d .before .before .before)) (d .before .before .if2 .left) (inside d) (target-in (c .before)) (c .if5 .taken)
 
 layer-fits-requires-2 : tie.Need-layer-fits-requires-2
-layer-fits-requires-2 c κs = grid-of _ _ _ (fitting (c .before .before .before .before .before .before)) .narrow
+layer-fits-requires-2 c κs = narrow (c .before .before .before .before .before .before)
 
 returns-6 : tie.Need-returns-6
 returns-6 c =
     let d = c .before .before .before .before in
     c .layer-fits2 .ensures
-    ∙ fits-source _ _ _ _ _ _ _ _ (fitting (d .before .before .before)) (d .before .before .if2 .left) (inside d) (target-in (c .before .before)) (c .before .if5 .left)
+    ∙ fits-source _ _ _ _ _ _ _ _ _ (fitting (d .before .before .before)) (d .before .before .if2 .left) (inside d) (target-in (c .before .before)) (c .before .if5 .left)
 
 pub fill-fits-spec : {M : Type 1} → statement M
 fill-fits-spec =

@@ -1,6 +1,5 @@
 -- `score_table::layer_fits` meets its contract: the sum is tested as a difference, which can't wrap.
 -- Assumes nothing.
-use mathlib.Core.Path.{sym}
 use borrow.Author.Needs.{needs}
 use Rattle.score_table.proofs.Calls.{layer-short, layer-within}
 use Rattle.score_table.proofs.layer_fits.Statement.{statement}

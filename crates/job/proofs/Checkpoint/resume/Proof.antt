@@ -32,18 +32,15 @@ returns c = record {
   job = λ j e. absurd (let z : _≡_ {A = ℕ} 0 1 = cc in omega arith);
 }
 
-rule-of-requires : tie.Need-rule-of-requires
-rule-of-requires c κs = search needs
-
-stage-of-requires : tie.Need-stage-of-requires
-stage-of-requires c κs = let s = numbers-at _ (numbers-fit (c .before)) .frame .size in (s .narrow, s .low)
+job-of-requires : tie.Need-job-of-requires
+job-of-requires c κs = let s = numbers-at _ (numbers-fit c) .frame .size in (s .narrow, s .low)
 
 returns-2 : tie.Need-returns-2
 unfolding resumeRule
 returns-2 c = record {
-  says = rw (c .stage-of .ensures, c .before .rule-of .ensures) (simp (numbers-fit (c .before .before), numbers-back _ (numbers-fit (c .before .before))));
-  job = λ j e. handed e (rw (c .stage-of .ensures, c .before .rule-of .ensures));
+  says = rw (c .job-of .ensures) (simp (numbers-fit (c .before), numbers-back _ (numbers-fit (c .before))));
+  job = λ j e. handed e (c .job-of .ensures);
 }
 
 pub resume-spec : {M : Type 1} → statement M
-resume-spec = tie.close (tie.spec checkpoint-fits-requires returns rule-of-requires stage-of-requires returns-2)
+resume-spec = tie.close (tie.spec checkpoint-fits-requires returns job-of-requires returns-2)

@@ -12,6 +12,7 @@ use Rattle.board.specs.Boards.{Sized}
 use Rattle.board.proofs.Answers.{let-through}
 use Rattle.rule.proofs.Rules.{grid-allowed}
 use Rattle.elimination.specs.Shape.{unitsFit, numbersFit}
+use Rattle.elimination.proofs.Shape as Shape
 use Rattle.job.specs.Jobs.{shapeOf, ruleOf, checkpointFits}
 use Rattle.job.proofs.Fits.{Frame, frame-fits}
 use Rattle.job.proofs.Checkpoints.{frame-misfits, chosen-le, shift-none, shift-some}
@@ -91,7 +92,7 @@ rows-fit-requires : tie.Need-rows-fit-requires
 rows-fit-requires c κs =
     let d = c .before .before .before in
     let s = size-at (d .before .before .before .before) in
-    (s .narrow, omega (arith, c .rows-chosen .ensures, chosen-le _ _ _ _ (units-at (c .before))))
+    (s .narrow, omega (arith, c .rows-chosen .ensures, chosen-le _ _ _ _ (Shape.units-at _ _ _ (units-at (c .before)))))
 
 returns-5 : tie.Need-returns-5
 unfolding checkpointFits numbersFit

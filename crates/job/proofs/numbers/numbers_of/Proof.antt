@@ -1,42 +1,14 @@
--- `job::numbers::numbers_of` meets its contract, by the stage.
+-- `job::numbers::numbers_of` meets its contract: four of the numbers are the stage's.
 -- Assumes nothing.
 use borrow.Author.Needs.{needs}
 use Rattle.job.proofs.numbers.numbers_of.Statement.{statement}
 use Rattle.job.proofs.numbers.numbers_of.Tie as tie
 
-enum-known-stage : tie.Need-enum-known-stage
-enum-known-stage c = search needs
-
-enum-known-stage-2 : tie.Need-enum-known-stage-2
-enum-known-stage-2 c = search needs
-
-enum-known-stage-3 : tie.Need-enum-known-stage-3
-enum-known-stage-3 c = search needs
-
-enum-told : tie.Need-enum-told
-enum-told c = search needs
+kept-in-requires : tie.Need-kept-in-requires
+kept-in-requires c κs = search needs
 
 returns : tie.Need-returns
-returns c = rw (c .before .stage .given .1)
-
-returns-2 : tie.Need-returns-2
-returns-2 c = rw (c .before .stage2 .given .1)
-
-returns-3 : tie.Need-returns-3
-returns-3 c = rw (c .before .stage3 .given .1)
-
-returns-4 : tie.Need-returns-4
-returns-4 c = rw (c .enum-told .given .1)
+returns c = let k = c .kept-in .ensures in rw (k .0, k .1, k .2, k .3)
 
 pub numbers-of-spec : {M : Type 1} → statement M
-numbers-of-spec =
-    tie.close
-    (tie.spec
-    enum-known-stage
-    enum-known-stage-2
-    enum-known-stage-3
-    enum-told
-    returns
-    returns-2
-    returns-3
-    returns-4)
+numbers-of-spec = tie.close (tie.spec kept-in-requires returns)

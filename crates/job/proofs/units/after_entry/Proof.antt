@@ -1,23 +1,23 @@
--- `job::units::after_entry` meets its contract.
+-- `job::units::after_entry` meets its contract: the job of the next numbers, where an entry is written.
 -- Assumes nothing.
+use native.Mathlib.Numerals.{add-one}
 use native.Mathlib.Omega.{arith}
 use borrow.Author.Needs.{needs}
-use Rattle.board.proofs.Powers.{table-le}
-use Rattle.job.proofs.Shapes.{fills-at, chooses-at}
+use Rattle.job.proofs.Next.{units-few}
 use Rattle.job.proofs.units.after_entry.Statement.{statement}
 use Rattle.job.proofs.units.after_entry.Tie as tie
 
-table-size-requires : tie.Need-table-size-requires
-table-size-requires c κs = search needs
+numbers-of-requires : tie.Need-numbers-of-requires
+numbers-of-requires c κs = search needs
 
-add-units : tie.Need-add-units
-add-units c = search needs
+add-t : tie.Need-add-t
+add-t c = let p = c .before .before .pre in rw (c .before .numbers-of .ensures) (omega (arith, units-few (p .0) (p .1) (p .2)))
+
+job-of-requires : tie.Need-job-of-requires
+job-of-requires c κs = let p = c .before .before .pre in rw (c .before .numbers-of .ensures) (p .0, p .1)
 
 returns : tie.Need-returns
-returns c = rw (fills-at _ _ _ (rw (c .before .before .table-size .ensures .0) at (c .if1 .taken)))
-
-returns-2 : tie.Need-returns-2
-returns-2 c = rw (chooses-at _ _ _ (rw (c .before .before .table-size .ensures .0) at (c .if1 .left)))
+returns c = rw (c .job-of .ensures, c .before .before .numbers-of .ensures, add-one)
 
 pub after-entry-spec : {M : Type 1} → statement M
-after-entry-spec = tie.close (tie.spec table-size-requires add-units returns returns-2)
+after-entry-spec = tie.close (tie.spec numbers-of-requires add-t job-of-requires returns)

@@ -1,22 +1,23 @@
--- `job::units::after_none` meets its contract, by its test.
+-- `job::units::after_none` meets its contract: the job of the next numbers, where no row can be chosen.
 -- Assumes nothing.
-use mathlib.Core.Path.{_∙_, sym}
+use native.Mathlib.Numerals.{add-one}
+use native.Mathlib.Omega.{arith}
 use borrow.Author.Needs.{needs}
-use Rattle.job.proofs.Next.{none-beyond, some-beyond}
+use Rattle.job.proofs.Next.{units-few}
 use Rattle.job.proofs.units.after_none.Statement.{statement}
 use Rattle.job.proofs.units.after_none.Tie as tie
 
-table-size-requires : tie.Need-table-size-requires
-table-size-requires c κs = search needs
+numbers-of-requires : tie.Need-numbers-of-requires
+numbers-of-requires c κs = search needs
+
+add-t : tie.Need-add-t
+add-t c = let p = c .before .before .pre in rw (c .before .numbers-of .ensures) (omega (arith, units-few (p .0) (p .1) (p .2)))
+
+job-of-requires : tie.Need-job-of-requires
+job-of-requires c κs = let p = c .before .before .pre in rw (c .before .numbers-of .ensures) (p .0, p .1)
 
 returns : tie.Need-returns
-returns c = rw (some-beyond _ _ (c .before .before .before .pre .2) (rw (c .before .before .table-size .ensures .0) at (c .if1 .taken)))
-
-add-t5 : tie.Need-add-t5
-add-t5 c = search needs
-
-returns-2 : tie.Need-returns-2
-returns-2 c = rw (none-beyond _ _ (c .before .before .if1 .left ∙ c .before .before .before .before .table-size .ensures .0))
+returns c = rw (c .job-of .ensures, c .before .before .numbers-of .ensures, add-one)
 
 pub after-none-spec : {M : Type 1} → statement M
-after-none-spec = tie.close (tie.spec table-size-requires returns add-t5 returns-2)
+after-none-spec = tie.close (tie.spec numbers-of-requires add-t job-of-requires returns)

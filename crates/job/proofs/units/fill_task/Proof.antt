@@ -1,6 +1,7 @@
 -- `job::units::fill_task` meets its contract: its numbers are those of the plan's task.
 -- Assumes nothing.
-use mathlib.Core.Path.{_≡_}
+use mathlib.Core.Path.{_≡_, ap}
+use mathlib.Core.Option as Option
 use Prim.Native.Nat.{ℕ, _-_, _/_, _<_, _≤_}
 use native.Mathlib.Nat.{mul-le-mul}
 use native.Mathlib.Omega.{arith}
@@ -47,7 +48,7 @@ rem-entry : tie.Need-rem-entry
 rem-entry c = some c
 
 returns : tie.Need-returns
-returns c = task-fill _ _ _ _ (c .table-size .ensures .0) (c .before .pre .2)
+returns c = ap Option.some (task-fill _ _ _ _ (c .table-size .ensures .0) (c .before .pre .2))
 
 pub fill-task-spec : {M : Type 1} → statement M
 fill-task-spec = tie.close (tie.spec table-size-requires div-after sub-source mul-source sub-target sub-target-2 mul-target rem-entry returns)

@@ -1,5 +1,7 @@
 -- `job::units::row_task` meets its contract: its numbers are those of the plan's task.
 -- Assumes nothing.
+use mathlib.Core.Path.{ap}
+use mathlib.Core.Option.{some}
 use Prim.Native.Nat.{ℕ, _-_, _≤_}
 use native.Mathlib.Nat.{mul-le-mul}
 use native.Mathlib.Omega.{arith}
@@ -24,7 +26,7 @@ mul-source c =
     omega (arith, mul-le-mul l (layer-le _ _ (c .table-size2 .ensures .0) (s .pre .0)))
 
 returns : tie.Need-returns
-returns c = rw (c .before .table-size .ensures .0) (task-row _ _ _ _ (c .table-size2 .ensures .0) (c .before .before .pre .2))
+returns c = rw (c .before .table-size .ensures .0) (ap some (task-row _ _ _ _ (c .table-size2 .ensures .0) (c .before .before .pre .2)))
 
 pub row-task-spec : {M : Type 1} → statement M
 row-task-spec = tie.close (tie.spec table-size-requires sub-row table-size-requires-2 mul-source returns)

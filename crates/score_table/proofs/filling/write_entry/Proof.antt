@@ -1,8 +1,5 @@
 -- `score_table::filling::write_entry` meets its contract: the place is the entry's, within its layer.
 -- Assumes nothing.
-use mathlib.Core.Path.{ap}
-use Prim.Native.Nat.{ℕ, _+_}
-use lib.ListN.{set}
 use borrow.Author.Needs.{needs}
 use Rattle.elimination.specs.Table.{fillEntry}
 use Rattle.score_table.proofs.filling.write_entry.Statement.{statement}

@@ -3,16 +3,14 @@
 use mathlib.Core.Path.{_≡_, sym, _∙_, ap}
 use mathlib.Core.Bool.{true}
 use Prim.Native.Nat.{_*_}
-use native.Mathlib.Omega.{arith}
 use borrow.Author.Needs.{needs}
-use borrow.Author.Tests.{le-leb, lt-leb, not-true, not-false}
+use borrow.Author.Tests.{not-true, not-false}
 use lib.Dec.{eqb}
 use lib.ListN.{length}
 use Rattle.board.specs.Answers.{passed}
 use Rattle.board.proofs.Answers.{turned-away, let-through}
-use Rattle.board.proofs.Powers.{shift-short, shift-long}
 use Rattle.job.specs.Jobs.{jobFits, readCheck, pausedSays}
-use Rattle.job.proofs.Fits.{fits-at, paused-numbers}
+use Rattle.job.proofs.Fits.{paused-numbers}
 use Rattle.service.specs.Service.{workCheck}
 use Rattle.solver.specs.Working.{lentCheck}
 use Rattle.solver.proofs.CheckLaws.{pause-refused}
@@ -69,33 +67,14 @@ returns-3 c =
     let d = c .before .before in
     simp (job-at (d .before .before .before), marks-at d, sym (c .before .has-length .ensures) ∙ not-true _ (c .if1 .taken))
 
-mul-if2 : tie.Need-mul-if2
-mul-if2 c = omega (arith, fits-at _ (job-at (c .before .before .before .before .before)) .frame .size .narrow)
-
-shr-if2 : tie.Need-shr-if2
-shr-if2 c = omega (arith, fits-at _ (job-at (c .before .before .before .before .before)) .frame .size .narrow)
+check-table-requires : tie.Need-check-table-requires
+check-table-requires c κs = search needs
 
 returns-4 : tie.Need-returns-4
 unfolding workCheck lentCheck
 returns-4 c =
     let d = c .before in
-    simp (
-      job-at (d .before .before .before .before .before),
-      marks-at (d .before .before),
-      board-at d,
-      lt-leb _ _ (shift-short _ _ _ (c .if2 .taken)),
-    )
-
-returns-5 : tie.Need-returns-5
-unfolding workCheck lentCheck
-returns-5 c =
-    let d = c .before in
-    simp (
-      job-at (d .before .before .before .before .before),
-      marks-at (d .before .before),
-      board-at d,
-      le-leb _ _ (shift-long _ _ _ (c .if2 .left)),
-    )
+    simp (job-at (d .before .before .before .before .before), marks-at (d .before .before), board-at d, c .check-table .ensures)
 
 pub check-work-spec : {M : Type 1} → statement M
 check-work-spec =
@@ -111,7 +90,5 @@ check-work-spec =
     enum-told-2
     has-length-requires
     returns-3
-    mul-if2
-    shr-if2
-    returns-4
-    returns-5)
+    check-table-requires
+    returns-4)

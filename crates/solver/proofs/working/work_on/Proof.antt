@@ -30,17 +30,17 @@ of-requires c κs = search needs
 loop-holds : tie.Need-loop-holds Inv-loop μ-loop
 loop-holds c = (refl, refl, refl, c .before .before .before .before .before .pre, c .of .ensures)
 
-has-ended-requires : tie.Need-has-ended-requires Inv-loop μ-loop
-has-ended-requires c κs = search needs
-
 unit-requires : tie.Need-unit-requires Inv-loop μ-loop
-unit-requires c κs = let l = c .before .before .before .before .before .before .loop in (l .inv .4, l .inv .3)
+unit-requires c κs = let l = c .before .before .before .before .loop in (l .inv .4, l .inv .3)
 
 enum-known-j : tie.Need-enum-known-j Inv-loop μ-loop
 enum-known-j c = search needs
 
 enum-told : tie.Need-enum-told Inv-loop μ-loop
 enum-told c = search needs
+
+enum-told-2 : tie.Need-enum-told-2 Inv-loop μ-loop
+enum-told-2 c = search needs
 
 same-length : tie.Need-same-length Inv-loop μ-loop
 same-length c = search needs
@@ -50,8 +50,9 @@ same-length-2 c = search needs
 
 returns : tie.Need-returns Inv-loop μ-loop
 returns c =
-    works-turned _ _ _ _ _ _ _ (c .before .before .before .before .before .before .unit .ensures) (c .enum-told .given .1) _ (c .before .before .before .before .before .before .before .before .before .before .before .before .loop-test .left)
-    ∙ c .before .before .before .before .before .before .before .before .before .before .before .before .before .loop .inv .0
+    let u = c .before .before .before .before .before .before in
+    let t = u .before .before .before .before in
+    works-turned _ _ _ _ _ _ _ (u .unit .ensures) (c .enum-told2 .given .1) _ (t .loop-test .left) ∙ t .before .loop .inv .0
 
 sub-left : tie.Need-sub-left Inv-loop μ-loop
 sub-left c = search needs
@@ -61,10 +62,12 @@ loop-less c = search needs
 
 loop-again : tie.Need-loop-again Inv-loop μ-loop
 loop-again c =
-    let l = c .before .before .before .before .before .before .before .before .before .before .before .before .before .before .loop in
-    let u = c .before .before .before .before .before .before .before .unit in
+    let n = c .before .before .before .before .before .before .before in
+    let t = n .before .before .before .before in
+    let l = t .before .loop in
+    let u = n .unit in
     let e = c .before .j .given .1 in (
-      works-moved _ _ _ _ _ _ _ (u .ensures) _ e _ (c .before .before .before .before .before .before .before .before .before .before .before .before .before .loop-test .left) ∙ l .inv .0,
+      works-moved _ _ _ _ _ _ _ (u .ensures) _ e _ (t .loop-test .left) ∙ l .inv .0,
       u .kept .1 .1 .1 .0 ∙ l .inv .1,
       u .kept .1 .1 .1 .1 .0 ∙ l .inv .2,
       lent-moved _ _ _ _ _ _ _ (u .ensures) _ e (l .inv .3),
@@ -75,15 +78,23 @@ status-of-requires : tie.Need-status-of-requires Inv-loop μ-loop
 status-of-requires c κs = search needs
 
 same-length-3 : tie.Need-same-length-3 Inv-loop μ-loop
-same-length-3 c = search needs
+same-length-3 c =
+    let l = c .before .before .loop in
+    let e : length (c .before .loop-test .table) ≡ length (c .before .before .before .before .before .before .before .before .args .table .now) =
+    ⊎-elim (λ x. rw (x .1) (l .inv .1)) (λ x. rw (x .11) (x .4 .kept .1 .1 .1 .0 ∙ l .inv .1)) (c .before .loop-test .came) in
+    search needs
 
 same-length-4 : tie.Need-same-length-4 Inv-loop μ-loop
-same-length-4 c = search needs
+same-length-4 c =
+    let l = c .before .before .loop in
+    let e : length (c .before .loop-test .board) ≡ length (c .before .before .before .before .before .before .before .before .args .board .now) =
+    ⊎-elim (λ x. rw (x .2) (l .inv .2)) (λ x. rw (x .12) (x .4 .kept .1 .1 .1 .1 .0 ∙ l .inv .2)) (c .before .loop-test .came) in
+    search needs
 
 returns-2 : tie.Need-returns-2 Inv-loop μ-loop
 returns-2 c =
-    ⊎-elim (λ x. works-spent _ _ _ _ _ (c .status-of .ensures) _ (x .taken)) (λ x. works-over _ _ _ _ _ (c .status-of .ensures) _ (sym (x .1 .ensures) ∙ x .2 .taken))
-    (c .before .loop-test .came)
+    ⊎-elim (λ x. rw (x .1, x .2) (works-spent _ _ _ _ _ (c .status-of .ensures) _ (x .0 .taken)))
+    (λ x. rw (x .11, x .12) (works-over _ _ _ _ _ _ _ (x .4 .ensures) (x .10 .given .1) _ (c .status-of .ensures) _)) (c .before .loop-test .came)
     ∙ c .before .before .loop .inv .0
 
 pub work-on-spec : {M : Type 1} → statement M
@@ -94,10 +105,10 @@ work-on-spec =
     μ-loop
     of-requires
     loop-holds
-    has-ended-requires
     unit-requires
     enum-known-j
     enum-told
+    enum-told-2
     same-length
     same-length-2
     returns
