@@ -68,7 +68,7 @@ plan-row h q r = rw (le-ltb (h * q + r) (h * q) (omega arith), add-sub-cancel-le
 
 module _ (h q : ℕ) where
   -- a unit past the filling chooses
-  plan-late : (u : ℕ) → h * q ≤ u → plan h q u ≡ chooseAt q (u - h * q)
+  pub plan-late : (u : ℕ) → h * q ≤ u → plan h q u ≡ chooseAt q (u - h * q)
   plan-late u l = let d : u ≡ h * q + (u - h * q) = omega arith in ap (plan h q) d ∙ plan-row h q (u - h * q)
 
   -- the place that a unit writes

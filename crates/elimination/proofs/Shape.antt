@@ -14,7 +14,7 @@ use Rattle.elimination.specs.TwoLayers as Two
 use Rattle.elimination.specs.Shape.{Shape, Numbers, unitsFit, rowsChosen, rowsFit, numbersFit, afterEntry, afterNone, ShapeLaws, NumbersGoOn, whole, chosenFrom, twoLayers, ShapesLawful}
 use Rattle.elimination.proofs.Numbers.{lt-or-ge}
 use Rattle.elimination.proofs.Task.{row-not-fill}
-use Rattle.elimination.proofs.FillThenChoose.{plan-fill, plan-row}
+use Rattle.elimination.proofs.FillThenChoose.{plan-fill, plan-late}
 use Rattle.elimination.proofs.TwoLayers as Twos
 
 -- ---- tests as facts
@@ -204,16 +204,13 @@ module _ (codes h most : ℕ) where
   q = codes * codes
 
   early : (u k source target j : ℕ) → Whole.plan h q u ≡ fill k source target j → u < h * q
-  early u k source target j p =
-      ⊎-elim (λ (l : u < h * q). l)
-      (λ (l : h * q ≤ u). let d : u ≡ h * q + (u - h * q) = omega arith in row-not-fill (sym (ap (Whole.plan h q) d ∙ plan-row h q (u - h * q)) ∙ p)) (lt-or-ge u (h * q))
+  early u k source target j p = ⊎-elim (λ (l : u < h * q). l) (λ (l : h * q ≤ u). row-not-fill (sym (plan-late h q u l) ∙ p)) (lt-or-ge u (h * q))
 
   late : (u r source : ℕ) → Whole.plan h q u ≡ row r source → u ≡ h * q + r
   late u r source p =
       ⊎-elim (λ (l : u < h * q). row-not-fill (sym p ∙ plan-fill h q u l))
       (λ (l : h * q ≤ u).
-      let d : u ≡ h * q + (u - h * q) = omega arith in
-      let e : row (u - h * q) ((u - h * q) * q) ≡ row r source = sym (ap (Whole.plan h q) d ∙ plan-row h q (u - h * q)) ∙ p in
+      let e : row (u - h * q) ((u - h * q) * q) ≡ row r source = sym (plan-late h q u l) ∙ p in
       let f : u - h * q ≡ r = cc in omega arith)
       (lt-or-ge u (h * q))
 

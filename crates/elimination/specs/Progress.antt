@@ -35,8 +35,8 @@ module _ {X : Type 0} (J : Setup X (List ℕ)) (read : ℕ → List ℕ → ℕ)
   worthSoFar board zero = J .kind .start
   worthSoFar board (suc r) = J .kind .add (J .height - suc r) (read r board) (worthSoFar board r)
 
-  -- Row above a, last row b and worth so far x, once the first k rows of a board are chosen: a is row k - 1 and b is row k, each 0 until such a row
-  -- is chosen, and x is what the k rows are worth.
+  -- Row above a, last row b and worth so far x, once the first k rows of a board are chosen, which are at most all of them: a is row k - 1 and b is
+  -- row k, each 0 until such a row is chosen, and x is what the k rows are worth.
   pub record Carried (k : ℕ) (board : List ℕ) (a b : ℕ) (x : X) : Type 0 where
     pub few : k ≤ J .height
     pub above : a ≡ rowAt read board (k - 1)

@@ -1,9 +1,8 @@
 // The calls of a job in a row: open, work, pause, resume, work on. README.md shows it.
 use job::Checkpoint;
 use job::Job;
-use job::Opened;
+use job::JobResult;
 use job::Paused;
-use job::Resumed;
 use solver::Status;
 
 fn main() {
@@ -11,8 +10,8 @@ fn main() {
     let mut table = [7u16; 32]; // 2 × 4^2 entries, with leftovers
     let mut board = [9u8; 4];
     match job::open(rule::conway(), 2, 2, &givens) {
-        Opened::Ready(job) => work_and_pause(job, &givens, &mut table, &mut board),
-        Opened::Refused(r) => report::refusal(r),
+        JobResult::Ready(job) => work_and_pause(job, &givens, &mut table, &mut board),
+        JobResult::Refused(r) => report::refusal(r),
     }
 }
 
@@ -30,13 +29,13 @@ fn work_and_pause(job: Job, givens: &[u8], table: &mut [u16], board: &mut [u8]) 
 fn resume_and_work(numbers: Checkpoint, givens: &[u8], table: &mut [u16], board: &mut [u8]) {
     print_numbers(numbers);
     match numbers.resume() {
-        Resumed::Ready(job) => {
+        JobResult::Ready(job) => {
             let worked = solver::work(job, givens, table, board, 1000);
             let status = worked.status;
             print_status(status);
             print_board(board);
         }
-        Resumed::Refused(r) => report::refusal(r),
+        JobResult::Refused(r) => report::refusal(r),
     }
 }
 

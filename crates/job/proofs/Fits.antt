@@ -20,12 +20,12 @@ use Rattle.elimination.proofs.Shape as Shapes
 use Rattle.rule.specs.Rule.{Allowed, ruleFits}
 use Rattle.rule.specs.declared.Rule.{Rule}
 use Rattle.rule.proofs.Rules.{fits-allowed, allowed-fits}
-use Rattle.job.specs.Jobs.{shapeOf, ruleOf, numbersIn, checkpointFits, numbersOf, checkpointSays, jobSays, stageFits, jobFits, stageOf, start, jobOf, pauseRule, resumeRule, pausedSays, resumedSays}
+use Rattle.job.specs.Jobs.{shapeOf, ruleOf, numbersIn, checkpointFits, numbersOf, checkpointSays, jobSays, stageFits, jobFits, stageOf, start, jobOf, pauseRule, resumeRule, pausedSays, jobResultSays}
 use Rattle.job.specs.Calls.{RoundTrip, Pausable}
 use Rattle.job.specs.declared.Stage.{Stage}
 use Rattle.job.specs.declared.Job.{Job}
 use Rattle.job.specs.declared.Checkpoint.{Checkpoint}
-use Rattle.job.specs.declared.Resumed.{Resumed}
+use Rattle.job.specs.declared.JobResult.{JobResult}
 use Rattle.job.proofs.Shapes.{shape-lawful, board-long, none-long, table-pos, fills-at, fills-below, chooses-from}
 
 pub and-true : {s t : Bool} → s ≡ true → t ≡ true → s && t ≡ true
@@ -83,6 +83,10 @@ pub fits-stage : (j : Job) → jobFits j ≡ true → stageFits (shapeOf (j .wid
 unfolding jobFits
 fits-stage j e = and-right (checkpointFits (numbersOf j)) (stageFits (shapeOf (j .width) (j .height)) (j .units) (j .stage)) e
 
+-- it has a size and a rule
+pub fits-frame : (j : Job) → jobFits j ≡ true → Frame (j .rule) (j .width) (j .height)
+fits-frame j e = numbers-at (numbersOf j) (fits-numbers j e) .frame
+
 -- an opened job fits
 pub start-fits : {rule : Rule} {w h : ℕ} → Frame rule w h → jobFits (start rule w h) ≡ true
 unfolding jobFits
@@ -91,61 +95,6 @@ start-fits {rule} {w} {h} z =
     and-true
     (numbers-of (numbersOf (start rule w h)) z (numbers-start (shapeOf w h) (shape-lawful w h high) (pow-pos w) (omega (arith, board-long w h, high))))
     (fills-at w h 0 (table-pos w h high))
-
--- ---- what a grid's job that fits has, by its stage
-pub record Early (w h u above last live : ℕ) : Type 0 where
-  pub over : above < 2 ^ w
-  pub below : last < 2 ^ w
-  pub until : u < tableSize w h
-  pub rows : Rows w (u - tableSize w h) above last live
-
-pub record Choosing (w h u above last live : ℕ) : Type 0 where
-  pub over : above < 2 ^ w
-  pub below : last < 2 ^ w
-  pub from : tableSize w h ≤ u
-  pub until : u < tableSize w h + h
-  pub rows : Rows w (u - tableSize w h) above last live
-
-pub record Finished (w h u above last score : ℕ) : Type 0 where
-  pub over : above < 2 ^ w
-  pub below : last < 2 ^ w
-  pub whole : u ≡ tableSize w h + h
-  pub rows : Rows w (u - tableSize w h) above last score
-
-abbrev pub Fits : ℕ → ℕ → ℕ → Stage → Type 0
-Fits w h u (Stage.Filling above last live) = Early w h u above last live
-Fits w h u (Stage.Choosing above last live) = Choosing w h u above last live
-Fits w h u (Stage.Finished above last score) = Finished w h u above last score
-Fits w h u Stage.Infeasible = u ≡ tableSize w h + 1
-
--- a size and a rule, and a stage that fits
-pub record Taken (rule : Rule) (w h u : ℕ) (s : Stage) : Type 0 where
-  pub frame : Frame rule w h
-  pub stage : Fits w h u s
-
-taken-at : (rule : Rule) (w h u : ℕ) (s : Stage) → NumbersFit (numbersOf (jobAt rule w h u s)) → stageFits (shapeOf w h) u s ≡ true → Taken rule w h u s
-unfolding rowsChosen
-taken-at rule w h u (Stage.Filling above last live) f e =
-    record { frame = f .frame; stage = record { over = f .are .over; below = f .are .below; until = fills-below w h u e; rows = f .are .rows } }
-taken-at rule w h u (Stage.Choosing above last live) f e = record {
-  frame = f .frame;
-  stage = record { over = f .are .over; below = f .are .below; from = chooses-from w h u (not-true _ e); until = go (f .are .units); rows = f .are .rows };
-}
-  where
-    go : Units (shapeOf w h) u 0 → u < tableSize w h + h
-    go (runs l) = omega (arith, board-long w h)
-taken-at rule w h u (Stage.Finished above last score) f e =
-    record { frame = f .frame; stage = record { over = f .are .over; below = f .are .below; whole = go (f .are .units); rows = f .are .rows } }
-  where
-    go : Units (shapeOf w h) u 1 → u ≡ tableSize w h + h
-    go (ends q) = q ∙ board-long w h
-taken-at rule w h u Stage.Infeasible f e = record { frame = f .frame; stage = go (f .are .units) }
-  where
-    go : Units (shapeOf w h) u 2 → u ≡ tableSize w h + 1
-    go (fails q) = q ∙ none-long w h
-
-pub fits-at : (j : Job) → jobFits j ≡ true → Taken (j .rule) (j .width) (j .height) (j .units) (j .stage)
-fits-at j e = taken-at (j .rule) (j .width) (j .height) (j .units) (j .stage) (numbers-at (numbersOf j) (fits-numbers j e)) (fits-stage j e)
 
 -- ---- pausing and resuming
 stage-back : (rule : Rule) (w h u : ℕ) (s : Stage) → stageFits (shapeOf w h) u s ≡ true → stageOf (numbersOf (jobAt rule w h u s)) ≡ s
@@ -197,6 +146,6 @@ round-trip j p t r P e R = go r (R .says) (R .job)
     fits : checkpointFits t ≡ true
     fits = rw (q .1) (fits-numbers j (q .0))
 
-    go : (r : Resumed) → resumedSays r ≡ resumeRule t → ((i : Job) → r ≡ Resumed.Ready i → i ≡ jobOf t) → r ≡ Resumed.Ready j
-    go (Resumed.Ready i) s f = ap Resumed.Ready (f i refl ∙ ap jobOf (q .1) ∙ job-back j (q .0))
-    go (Resumed.Refused x) s f = absurd (refuses-none (rw fits at s))
+    go : (r : JobResult) → jobResultSays r ≡ resumeRule t → ((i : Job) → r ≡ JobResult.Ready i → i ≡ jobOf t) → r ≡ JobResult.Ready j
+    go (JobResult.Ready i) s f = ap JobResult.Ready (f i refl ∙ ap jobOf (q .1) ∙ job-back j (q .0))
+    go (JobResult.Refused x) s f = absurd (refuses-none (rw fits at s))

@@ -18,7 +18,7 @@ use Rattle.job.specs.Jobs.{boardLength, afterChoice, shapeOf, aboveOf, l
 use Rattle.job.specs.declared.Job.{Job}
 use Rattle.job.specs.declared.Chosen.{Chosen}
 use Rattle.job.proofs.Shapes.{board-long}
-use Rattle.job.proofs.Fits.{numbers-at, fits-numbers, fits-at}
+use Rattle.job.proofs.Fits.{numbers-at, fits-numbers, fits-frame}
 use Rattle.job.proofs.Checkpoints.{chosen-le}
 
 none-some : {A : Type 0} {x : A} → none ≡ some x → _≡_ {A = ℕ} 0 1
@@ -77,7 +77,7 @@ stands-later S (suc r) j n = refl
 -- ---- a job that fits
 module _ (j : Job) (f : jobFits j ≡ true) where
   pub fits-size : (j .width ≤ maxWidth) × (j .height ≤ maxHeight)
-  fits-size = let z = fits-at j f .frame .size in (z .narrow, z .low)
+  fits-size = let z = fits-frame j f .size in (z .narrow, z .low)
 
   pub fits-rows : (aboveOf (j .stage) < 2 ^ j .width) × (lastOf (j .stage) < 2 ^ j .width)
   fits-rows = let n = numbers-at (numbersOf j) (fits-numbers j f) .are in (n .over, n .below)

@@ -6,31 +6,30 @@ use mathlib.Core.List.{List}
 use Prim.Native.Nat.{ℕ}
 use Rattle.board.specs.Answers.{gives}
 use Rattle.rule.specs.declared.Rule.{Rule}
-use Rattle.job.specs.Jobs.{numbersOf, jobSays, jobFits, jobOf, start, openRule, pauseRule, resumeRule, openedSays, pausedSays, resumedSays}
+use Rattle.job.specs.Jobs.{numbersOf, jobSays, jobFits, jobOf, start, openRule, pauseRule, resumeRule, jobResultSays, pausedSays}
 use Rattle.job.specs.declared.Job.{Job}
 use Rattle.job.specs.declared.Checkpoint.{Checkpoint}
-use Rattle.job.specs.declared.Opened.{Opened}
+use Rattle.job.specs.declared.JobResult.{JobResult}
 use Rattle.job.specs.declared.Paused.{Paused}
-use Rattle.job.specs.declared.Resumed.{Resumed}
 
 -- opening hands out the job at unit 0
-pub record Opens (rule : Rule) (w h : ℕ) (givens : List ℕ) (r : Opened) : Type 0 where
-  pub says : openedSays r ≡ openRule rule w h givens
-  pub job : (j : Job) → r ≡ Opened.Ready j → j ≡ start rule w h
+pub record Opens (rule : Rule) (w h : ℕ) (givens : List ℕ) (r : JobResult) : Type 0 where
+  pub says : jobResultSays r ≡ openRule rule w h givens
+  pub job : (j : Job) → r ≡ JobResult.Ready j → j ≡ start rule w h
 
 -- pausing gives the nine numbers
 pub record Pauses (j : Job) (r : Paused) : Type 0 where
   pub says : pausedSays r ≡ pauseRule j
 
 -- resuming hands out the job of nine numbers
-pub record Resumes (t : Checkpoint) (r : Resumed) : Type 0 where
-  pub says : resumedSays r ≡ resumeRule t
-  pub job : (j : Job) → r ≡ Resumed.Ready j → j ≡ jobOf t
+pub record Resumes (t : Checkpoint) (r : JobResult) : Type 0 where
+  pub says : jobResultSays r ≡ resumeRule t
+  pub job : (j : Job) → r ≡ JobResult.Ready j → j ≡ jobOf t
 
 -- THE JOB RESUMED EQUALS THE ONE PAUSED: of what the two calls hand back, for every job that pausing takes
 unfoldable pub RoundTrip : Type 0
 RoundTrip =
-    (j : Job) (p : Paused) (t : Checkpoint) (r : Resumed) → Pauses j p → p ≡ Paused.Numbers t → Resumes t r → r ≡ Resumed.Ready j
+    (j : Job) (p : Paused) (t : Checkpoint) (r : JobResult) → Pauses j p → p ≡ Paused.Numbers t → Resumes t r → r ≡ JobResult.Ready j
 
 -- Check 7 passes on a job, pausing gives its numbers, and resuming them gives the job back.
 pub record Pausable (j : Job) : Type 0 where

@@ -18,9 +18,8 @@ use Rattle.rule.specs.declared.Rule.{Rule}
 use Rattle.job.specs.declared.Stage.{Stage}
 use Rattle.job.specs.declared.Job.{Job}
 use Rattle.job.specs.declared.Checkpoint.{Checkpoint}
-use Rattle.job.specs.declared.Opened.{Opened}
+use Rattle.job.specs.declared.JobResult.{JobResult}
 use Rattle.job.specs.declared.Paused.{Paused}
-use Rattle.job.specs.declared.Resumed.{Resumed}
 use Rattle.job.specs.declared.Chosen.{Chosen}
 use Rattle.job.specs.declared.Task as Task
 
@@ -201,14 +200,10 @@ unfoldable pub afterUnit : Job → Chosen → Job
 afterUnit j chosen = afterTask (taskDue j) j chosen
 
 -- ---- the paper's number and values of each answer
-abbrev pub openedSays : Opened → Answer
-openedSays (Opened.Ready j) = gives (jobSays j)
-openedSays (Opened.Refused r) = refusalSays r
+abbrev pub jobResultSays : JobResult → Answer
+jobResultSays (JobResult.Ready j) = gives (jobSays j)
+jobResultSays (JobResult.Refused r) = refusalSays r
 
 abbrev pub pausedSays : Paused → Answer
 pausedSays (Paused.Numbers t) = gives (checkpointSays t)
 pausedSays (Paused.Refused r) = refusalSays r
-
-abbrev pub resumedSays : Resumed → Answer
-resumedSays (Resumed.Ready j) = gives (jobSays j)
-resumedSays (Resumed.Refused r) = refusalSays r

@@ -55,18 +55,14 @@ pub struct Checkpoint {
     pub survivals: usize,
 }
 
-pub enum Opened {
+// What opening and resuming hand out.
+pub enum JobResult {
     Ready(Job),
     Refused(Refusal),
 }
 
 pub enum Paused {
     Numbers(Checkpoint),
-    Refused(Refusal),
-}
-
-pub enum Resumed {
-    Ready(Job),
     Refused(Refusal),
 }
 
@@ -95,16 +91,16 @@ pub enum Chosen {
 }
 
 // A job at unit 0 under a rule for a grid of givens: w × h marks, 0 free, 1 given dead, 2 given live. Refusals 1, 2, 13, 3, 4.
-pub fn open(rule: Rule, width: usize, height: usize, givens: &[u8]) -> Opened
+pub fn open(rule: Rule, width: usize, height: usize, givens: &[u8]) -> JobResult
     ensures { λ r. ⌜ Opens rule width height (now (givens .entry)) r ⌝ }
 {
     if let Check::Refused(r) = rule::check(rule, width, height) {
-        return Opened::Refused(r);
+        return JobResult::Refused(r);
     }
     if let Check::Refused(r) = check_read(width, height, givens) {
-        return Opened::Refused(r);
+        return JobResult::Refused(r);
     }
-    Opened::Ready(Job {
+    JobResult::Ready(Job {
         rule,
         width,
         height,
@@ -126,13 +122,13 @@ pub fn check_read(width: usize, height: usize, givens: &[u8]) -> Check
 
 impl Checkpoint {
     // The job of these numbers. Refusal 7.
-    pub fn resume(self) -> Resumed
+    pub fn resume(self) -> JobResult
         ensures { λ r. ⌜ Resumes self r ⌝ }
     {
         if !numbers::checkpoint_fits(self) {
-            return Resumed::Refused(Refusal::Checkpoint);
+            return JobResult::Refused(Refusal::Checkpoint);
         }
-        Resumed::Ready(numbers::job_of(self))
+        JobResult::Ready(numbers::job_of(self))
     }
 }
 

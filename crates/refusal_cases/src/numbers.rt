@@ -1,8 +1,8 @@
 // Resumptions and pauses of a job of 2 by 2, whose table has 32 entries.
 use job::Checkpoint;
 use job::Job;
+use job::JobResult;
 use job::Paused;
-use job::Resumed;
 use job::Stage;
 
 pub fn resumptions() {
@@ -57,8 +57,8 @@ fn resume(name: &[u8], births: usize, units: usize, last: usize, mark: usize) {
     };
     report::text(name);
     match numbers.resume() {
-        Resumed::Ready(job) => report::line(b": a job at unit ", job.units),
-        Resumed::Refused(r) => report::refusal(r),
+        JobResult::Ready(job) => report::line(b": a job at unit ", job.units),
+        JobResult::Refused(r) => report::refusal(r),
     }
 }
 

@@ -1,5 +1,5 @@
 // Openings.
-use job::Opened;
+use job::JobResult;
 use rule::Rule;
 
 pub fn sizes() {
@@ -52,7 +52,7 @@ fn open_ruled(name: &[u8], births: usize, survivals: usize) {
 fn open(name: &[u8], rule: Rule, w: usize, h: usize, givens: &[u8]) {
     report::text(name);
     match job::open(rule, w, h, givens) {
-        Opened::Ready(job) => report::line(b": a job at unit ", job.units),
-        Opened::Refused(r) => report::refusal(r),
+        JobResult::Ready(job) => report::line(b": a job at unit ", job.units),
+        JobResult::Refused(r) => report::refusal(r),
     }
 }

@@ -19,7 +19,7 @@ use Rattle.solver.specs.Units.{State, Step, unitOf, grid}
 use Rattle.job.specs.Calls.{Opens}
 use Rattle.solver.specs.Inner.{Lent}
 use Rattle.job.specs.declared.Job.{Job}
-use Rattle.job.specs.declared.Opened.{Opened}
+use Rattle.job.specs.declared.JobResult.{JobResult}
 use Rattle.job.proofs.Fits.{start-fits}
 use Rattle.job.proofs.ReadChecks.{read-passes}
 use Rattle.solver.proofs.UnitLaws.{unit-fits, unit-lent}
@@ -27,7 +27,7 @@ use Rattle.runner.specs.Solving.{memoryCheck}
 
 -- ---- an opened job
 module _ {rule : Rule} (allowed : Allowed rule) {w h : ℕ} {g : List ℕ} (G : Givens w h g) where
-  pub start-opens : Opens rule w h g (Opened.Ready (start rule w h))
+  pub start-opens : Opens rule w h g (JobResult.Ready (start rule w h))
   unfolding openRule
   start-opens = record { says = rw (grid-passes rule (G .size) allowed, read-passes (G .bytes)); job = λ j e. cc }
 

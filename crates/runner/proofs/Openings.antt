@@ -10,11 +10,11 @@ use Rattle.board.proofs.Answers.{refuses-none, then-gives}
 use Rattle.rule.specs.Rule.{Allowed, gridCheck}
 use Rattle.rule.specs.declared.Rule.{Rule}
 use Rattle.rule.proofs.Rules.{grid-allowed, grid-passes}
-use Rattle.job.specs.Jobs.{start, jobSays, readCheck, openRule, openedSays}
+use Rattle.job.specs.Jobs.{start, jobSays, readCheck, openRule, jobResultSays}
 use Rattle.job.proofs.ReadChecks.{read-marks, read-passes}
 use Rattle.job.specs.Calls.{Opens}
 use Rattle.job.specs.declared.Job.{Job}
-use Rattle.job.specs.declared.Opened.{Opened}
+use Rattle.job.specs.declared.JobResult.{JobResult}
 use Rattle.runner.specs.Solving.{memoryCheck, solveCheck, Solves, Ready, Runs}
 use Rattle.runner.specs.declared.Solved.{Solved}
 
@@ -24,12 +24,12 @@ refused-then (gives xs) (gives ys) values e rest = absurd (refuses-none e)
 refused-then (gives xs) (refuses m ys) values e rest = sym e
 refused-then (refuses m xs) b values e rest = sym e
 
-module _ {rule : Rule} {w h : ℕ} {g : List ℕ} {o : Opened} (O : Opens rule w h g o) where
-  pub refused-solves : {r : Refusal} → o ≡ Opened.Refused r → (t β : List ℕ) → Solves rule w h g t β (Solved.Refused r) t β
+module _ {rule : Rule} {w h : ℕ} {g : List ℕ} {o : JobResult} (O : Opens rule w h g o) where
+  pub refused-solves : {r : Refusal} → o ≡ JobResult.Refused r → (t β : List ℕ) → Solves rule w h g t β (Solved.Refused r) t β
   unfolding openRule solveCheck
   refused-solves {r} e t β =
       let c : solveCheck rule w h g t β ≡ refusalSays r =
-      refused-then (gridCheck rule w h) (readCheck w h g) (jobSays (start rule w h)) (sym (ap openedSays e) ∙ O .says) (memoryCheck w h t β) in record {
+      refused-then (gridCheck rule w h) (readCheck w h g) (jobSays (start rule w h)) (sym (ap jobResultSays e) ∙ O .says) (memoryCheck w h t β) in record {
         comes = record {
           turned = λ n values q. (sym c ∙ q, refl, refl);
           ended = λ q. absurd (refuses-none (sym c ∙ q));
@@ -37,11 +37,11 @@ module _ {rule : Rule} {w h : ℕ} {g : List ℕ} {o : Opened} (O : Opens rule w
         };
       }
 
-  module _ {j : Job} (e : o ≡ Opened.Ready j) where
+  module _ {j : Job} (e : o ≡ JobResult.Ready j) where
     opened-grid : Givens w h g × Allowed rule
     unfolding openRule
     opened-grid =
-        let p = then-gives (gridCheck rule w h) (readCheck w h g then gives (jobSays (start rule w h))) (sym (O .says) ∙ ap openedSays e) in
+        let p = then-gives (gridCheck rule w h) (readCheck w h g then gives (jobSays (start rule w h))) (sym (O .says) ∙ ap jobResultSays e) in
         let q = then-gives (readCheck w h g) (gives (jobSays (start rule w h))) (p .1) in
         let r = grid-allowed rule w h (p .0 .1) in
         (record { size = r .0; bytes = read-marks w h g (q .0 .1) }, r .1)

@@ -24,7 +24,7 @@ use Rattle.service.specs.Demand.{Call, work, afterWork, afterCall, run, Each, F
 use Rattle.service.specs.JobKinds.{aimOf}
 use Rattle.solver.specs.Demand.{Filled, gridKind, ThirdDemand}
 use Rattle.job.specs.declared.Job.{Job}
-use Rattle.job.specs.declared.Opened.{Opened}
+use Rattle.job.specs.declared.JobResult.{JobResult}
 use Rattle.solver.proofs.CheckLaws.{work-checked, lent-of}
 use Rattle.job.proofs.Shapes.{table-pos}
 use Rattle.solver.proofs.Third.{third-demand}
@@ -185,7 +185,7 @@ module _ {rule : Rule} (permitted : Allowed rule) {w h : ℕ} {g : List ℕ} (G 
 
       turns : Turned rule w h g t₀ β₀ n s (turn g n s)
       unfolding ThirdDemand tableSize
-      turns = go (third-demand rule w h g t₀ β₀ (Opened.Ready (start rule w h)) (start rule w h) (start-opens permitted G) refl longer longer-fair)
+      turns = go (third-demand rule w h g t₀ β₀ (JobResult.Ready (start rule w h)) (start rule w h) (start-opens permitted G) refl longer longer-fair)
         where
           go : Outcome grid (aimOf (gridKind rule w h g)) longer s₀ → Turned rule w h g t₀ β₀ n s (turn g n s)
           go (solved board final O S) =

@@ -1,7 +1,7 @@
 // Runs a job to its end in one call, for callers that don't pause.
 use board::Refusal;
 use job::Job;
-use job::Opened;
+use job::JobResult;
 use rule::Rule;
 use solver::Status;
 ghost use Rattle.runner.specs.Solving.{Solves, Runs, Ready};
@@ -29,8 +29,8 @@ pub fn solve(
     ensures { λ r. ⌜ Solves rule w h (now (givens .entry)) (now (table .entry)) (now (board .entry)) r (now (table .exit)) (now (board .exit)) ⌝ }
 {
     match job::open(rule, w, h, givens) {
-        Opened::Refused(r) => Solved::Refused(r),
-        Opened::Ready(job) => run(job, givens, table, board),
+        JobResult::Refused(r) => Solved::Refused(r),
+        JobResult::Ready(job) => run(job, givens, table, board),
     }
 }
 

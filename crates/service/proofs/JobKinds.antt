@@ -30,7 +30,7 @@ use Rattle.job.specs.declared.Job.{Job}
 use Rattle.service.specs.Service.{stageSays, State, Step}
 use Rattle.service.specs.Service as Service
 use Rattle.service.specs.Laws.{Follows, Course, Comes, toBoard, toNone, Lawful}
-use Rattle.service.specs.JobKinds.{JobKind, rowsIn, aimOf, serviceOf, KindLaws, Opened, KindMeetsDemand}
+use Rattle.service.specs.JobKinds.{JobKind, rowsIn, aimOf, serviceOf, KindLaws, Fresh, KindMeetsDemand}
 use Rattle.service.proofs.Numbers.{continues}
 use Rattle.service.proofs.Units.{markIn, view, Here, follows}
 use Rattle.service.proofs.Demand.{meets-demand}
@@ -76,7 +76,7 @@ abbrev soFarAt : Run → ℕ
 soFarAt s = s .soFar
 
 module _ (Given : Type 0) (check : Job → Given → List ℕ → List ℕ → Answer) (unit : Given → State (List ℕ) → Step (List ℕ)) (given : Given) (K : JobKind)
-    (L : KindLaws Given check unit given K) (s : State (List ℕ)) (B : Opened Given check unit given K s) where
+    (L : KindLaws Given check unit given K) (s : State (List ℕ)) (B : Fresh Given check unit given K s) where
   abbrev J : Setup ℕ (List ℕ)
   J = K .setup
 

@@ -101,7 +101,7 @@ module _ (Given : Type 0) (check : Job → Given → List ℕ → List ℕ → A
         → K .Progress wanted before now
 
   -- a job as it was opened: at unit 0, running, with no rows
-  pub record Opened (s : State (List ℕ)) : Type 0 where
+  pub record Fresh (s : State (List ℕ)) : Type 0 where
     pub of : K .Of (s .job)
     pub fits : jobFits (s .job) ≡ true
     pub units : s .job .units ≡ 0
@@ -112,4 +112,4 @@ module _ (Given : Type 0) (check : Job → Given → List ℕ → List ℕ → A
 
   -- THE THEOREM: a kind of job that shows this meets the third demand
   abbrev pub KindMeetsDemand : Type 0
-  KindMeetsDemand = KindLaws → (s : State (List ℕ)) → Opened s → Demand (serviceOf Given check unit) (aimOf K) given s
+  KindMeetsDemand = KindLaws → (s : State (List ℕ)) → Fresh s → Demand (serviceOf Given check unit) (aimOf K) given s

@@ -10,7 +10,7 @@ use Rattle.rule.specs.declared.Rule.{Rule}
 use Rattle.job.specs.Jobs.{shapeOf, jobFits}
 use Rattle.job.specs.declared.Job.{Job}
 use Rattle.job.proofs.Shapes.{shape-lawful}
-use Rattle.job.proofs.Fits.{Frame, Fits, jobAt, fits-at}
+use Rattle.job.proofs.Fits.{Frame}
 use Rattle.score_table.proofs.Marks.{row-worth-le}
 use Rattle.service.specs.Laws.{Follows}
 use Rattle.service.specs.Units.{unitBy, Numbered}
@@ -22,14 +22,6 @@ use Rattle.solver.specs.Demand.{Of}
 use Rattle.solver.proofs.Endings.{kind-laws}
 
 module _ {rule : Rule} {w h : ℕ} (z : Frame rule w h) (g : List ℕ) where
-  same-job : (j : Job) → Of rule w h j → jobAt rule w h (j .units) (j .stage) ≡ j
-  same-job j O =
-      ap₂ (λ (x y : ℕ). jobAt rule x y (j .units) (j .stage)) (sym (O .wide)) (sym (O .tall))
-      ∙ ap (λ (x : Rule). jobAt x (j .width) (j .height) (j .units) (j .stage)) (sym (O .ruled))
-
-  pub fits-here : (j : Job) → Of rule w h j → jobFits j ≡ true → Fits w h (j .units) (j .stage)
-  fits-here j O f = fits-at (jobAt rule w h (j .units) (j .stage)) (rw (same-job j O) f) .stage
-
   pub numbered : Numbered (setupOf rule w h g) (shapeOf w h) (Of rule w h)
   numbered = record {
     shaped = shape-lawful w h (z .size .some-row);

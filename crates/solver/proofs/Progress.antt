@@ -1,14 +1,17 @@
 -- What is done by now, in the terms of a grid's table and board, from what the units of any plan leave.
 -- Assumes nothing.
 use mathlib.Core.Path.{_≡_, refl, sym, _∙_, ap₂}
+use mathlib.Core.Bool.{true, cond}
 use mathlib.Core.List.{List}
 use Prim.Native.Nat.{ℕ, zero, suc, _+_, _*_, _-_, _^_, _≤_, _<_, min}
 use native.Mathlib.Omega.{arith}
+use lib.Dec.{eqb}
 use Rattle.board.specs.Checks.{tableSize}
 use Rattle.elimination.specs.FillThenChoose.{plan}
 use Rattle.elimination.specs.Places as Places
 use Rattle.elimination.specs.Shape.{rowsChosen}
 use Rattle.elimination.specs.Progress.{Written, rowAt, worthSoFar, Carried}
+use Rattle.elimination.proofs.Shape.{Units, runs, ends, fails}
 use Rattle.elimination.proofs.FillThenChoose.{stands, writes-not}
 use Rattle.elimination.proofs.Progress.{worth-none, worth-more}
 use Rattle.rule.specs.declared.Rule.{Rule}
@@ -16,25 +19,25 @@ use Rattle.board.specs.Boards.{Board}
 use Rattle.life.specs.Rows.{rowOf}
 use Rattle.score_table.specs.Rows.{rowWorth}
 use Rattle.service.specs.JobKinds.{rowsIn}
-use Rattle.job.specs.Jobs.{shapeOf, aboveOf, lastOf, liveOf, markOf}
-use Rattle.job.specs.declared.Stage.{Stage}
-use Rattle.job.proofs.Fits.{Frame, Fits}
+use Rattle.job.specs.Jobs.{shapeOf, aboveOf, lastOf, liveOf, markOf, numbersOf, jobFits}
+use Rattle.job.proofs.Shapes.{none-long}
+use Rattle.job.proofs.Fits.{Frame, numbers-at, fits-numbers}
 use Rattle.board.proofs.Powers.{table-four}
 use Rattle.score_table.proofs.Places.{place-same}
 use Rattle.solver.specs.Grid.{score, Optimal}
 use Rattle.solver.specs.Units.{State, setupOf}
-use Rattle.solver.specs.Demand.{Filled, chosenIn, chosenRows, idleUnits, Progress, Of, gridKind}
+use Rattle.solver.specs.Demand.{Filled, Progress, Of, gridKind}
 use Rattle.solver.proofs.RowLaws.{row-inside, row-none, score-more, score-none}
 use Rattle.solver.proofs.Optimum.{readRow}
 use Rattle.solver.proofs.Endings.{kind}
 use Rattle.solver.proofs.TableLaws.{right-same}
 
 -- the units done are the entries written and the rows chosen
-units-split : (w h u : ℕ) (s : Stage) → Fits w h u s → u ≡ min u (tableSize w h) + chosenIn s (u - tableSize w h) + idleUnits s
-units-split w h u (Stage.Filling a l n) f = omega (arith, f .until)
-units-split w h u (Stage.Choosing a l n) f = omega (arith, f .from)
-units-split w h u (Stage.Finished a l n) f = omega (arith, f .whole)
-units-split w h u Stage.Infeasible f = omega arith
+units-split : (w h u m : ℕ) → Units (shapeOf w h) u m → u ≡ min u (tableSize w h) + rowsChosen (shapeOf w h) u m + cond (eqb m 2) 1 0
+unfolding rowsChosen
+units-split w h u m (runs l) = omega arith
+units-split w h u m (ends e) = omega arith
+units-split w h u m (fails e) = omega (arith, none-long w h)
 
 -- the table
 table-filled : (rule : Rule) (w h : ℕ) (g : List ℕ) (m : ℕ) (t₀ t : List ℕ) → Places.Filled (kind rule w h g) (plan h (2 ^ w * 2 ^ w)) m t₀ t
@@ -47,14 +50,6 @@ table-filled rule w h g m t₀ t F = record {
       rw (place-same w h u, right-same rule w h g u) (F .right _ _ _ S);
   rest = λ p f. F .rest p (λ v l. writes-not h (2 ^ w * 2 ^ w) v p (λ b e. f v (omega (arith, table-four w h)) (e ∙ sym (place-same w h v))));
 }
-
--- the rows chosen are the shape's
-chosen-same : (w h u : ℕ) (s : Stage) → Fits w h u s → chosenIn s (u - tableSize w h) ≡ rowsChosen (shapeOf w h) u (markOf s)
-unfolding rowsChosen
-chosen-same w h u (Stage.Filling a l n) f = omega (arith, f .until)
-chosen-same w h u (Stage.Choosing a l n) f = refl
-chosen-same w h u (Stage.Finished a l n) f = refl
-chosen-same w h u Stage.Infeasible f = refl
 
 module _ {rule : Rule} {w h : ℕ} (z : Frame rule w h) (g : List ℕ) where
   -- row i, counted from 1
@@ -75,7 +70,7 @@ module _ {rule : Rule} {w h : ℕ} (z : Frame rule w h) (g : List ℕ) where
   carried-score wanted zero x o l e = e ∙ worth-none (setupOf rule w h g) (readRow w) wanted ∙ sym (score-none w g wanted)
   carried-score wanted (suc k) x o l e = e ∙ worth-score (o (omega arith) .solution .grid) (suc k) l
 
-  pub progress : (wanted : List ℕ) (before now : State) → Of rule w h (now .job) → Fits w h (now .job .units) (now .job .stage)
+  pub progress : (wanted : List ℕ) (before now : State) → Of rule w h (now .job) → jobFits (now .job) ≡ true
       → (0 < rowsIn (gridKind rule w h g) (now .job) → Optimal rule w h g wanted)
       → Places.Filled (kind rule w h g) (plan h (2 ^ w * 2 ^ w)) (now .job .units) (before .table) (now .table)
       → Written w (rowsIn (gridKind rule w h g) (now .job)) wanted (before .board) (now .board)
@@ -83,15 +78,14 @@ module _ {rule : Rule} {w h : ℕ} (z : Frame rule w h) (g : List ℕ) where
       → Progress rule w h g wanted before now
   progress wanted before now O f o F E C =
       let s = now .job .stage in
-      let k = rowsIn (gridKind rule w h g) (now .job) in
-      let e : chosenRows w h (now .job) ≡ k = chosen-same w h (now .job .units) s f in record {
+      let k = rowsIn (gridKind rule w h g) (now .job) in record {
         ruled = O .ruled;
         width = O .wide;
         height = O .tall;
-        units = units-split w h (now .job .units) s f;
+        units = units-split w h (now .job .units) (markOf s) (rw (O .wide, O .tall) at (numbers-at (numbersOf (now .job)) (fits-numbers (now .job) f) .are .units));
         filled = table-filled rule w h g (now .job .units) (before .table) (now .table) F;
-        written = rw e E;
-        above = rw e (C .above ∙ row-same wanted (k - 1) (omega (arith, C .few)));
-        last = rw e (C .last ∙ row-same wanted k (C .few));
-        live = rw e (carried-score wanted k (liveOf s) o (C .few) (C .soFar));
+        written = E;
+        above = C .above ∙ row-same wanted (k - 1) (omega (arith, C .few));
+        last = C .last ∙ row-same wanted k (C .few);
+        live = carried-score wanted k (liveOf s) o (C .few) (C .soFar);
       }

@@ -20,7 +20,7 @@ use Rattle.score_table.proofs.Marks.{row-worth-le}
 use Rattle.job.specs.Jobs.{shapeOf, aboveOf, lastOf, markOf, liveOf, jobFits, taskDue, jobWith, afterUnit}
 use Rattle.job.specs.declared.Job.{Job}
 use Rattle.job.specs.declared.Chosen.{Chosen}
-use Rattle.job.proofs.Fits.{fits-at}
+use Rattle.job.proofs.Fits.{fits-frame}
 use Rattle.job.proofs.Next.{due-none, after-entry, after-row, after-none}
 use Rattle.service.specs.Service.{next, spoiled, worksOn, stageSays}
 use Rattle.service.specs.Units.{here, rowStep, markStep, unitBy}
@@ -104,9 +104,8 @@ module _ (j : Job) (r source : ℕ) (g t β : List ℕ) (C : Chooses j r source 
       → Moves j g t β (Stepped.Next j′) t (written (j .width) c β (r * j .width) (j .width))
   moves-row c n f j′ q =
       let live = liveOf (j .stage) in
-      let T = fits-at j (C .lent .taken) in
       let l : c < 2 ^ j .width =
-      subst (RowBelow (2 ^ j .width)) f (choice-lt (j .rule) (T .frame .size) g (j .height - suc r) (aboveOf (j .stage)) (lastOf (j .stage))
+      subst (RowBelow (2 ^ j .width)) f (choice-lt (j .rule) (fits-frame j (C .lent .taken) .size) g (j .height - suc r) (aboveOf (j .stage)) (lastOf (j .stage))
       (reads (kindOf (nextUnder (j .rule)) (j .width) (j .height) g) t source (lastOf (j .stage)))) in
       let d : j .height - suc (j .height - suc r) ≡ r = omega (arith, row-in C .inside) in
       let same : j′ ≡ jobWith j (afterRow (j .height) r c (rowWorth (j .width) g ((j .height - suc (j .height - suc r)) * j .width) c + live) (here j)) =

@@ -15,7 +15,7 @@ use Rattle.rule.proofs.Rules.{grid-allowed}
 use Rattle.elimination.specs.FillThenChoose.{schedule}
 use Rattle.elimination.specs.Shape.{Shape}
 use Rattle.elimination.proofs.FillThenChoose.{orderly, scheduled, schedule-lengths}
-use Rattle.job.specs.Jobs.{boardLength, start, jobSays, readCheck, openRule, openedSays}
+use Rattle.job.specs.Jobs.{boardLength, start, jobSays, readCheck, openRule, jobResultSays}
 use Rattle.job.specs.declared.Job.{Job}
 use Rattle.job.proofs.Shapes.{shape-is}
 use Rattle.job.proofs.Fits.{Frame, start-fits}
@@ -29,7 +29,7 @@ use Rattle.solver.specs.Theorems.{allRows}
 use Rattle.solver.proofs.Endings.{kind-laws, solution-ends}
 use Rattle.solver.proofs.Optimum.{readRow, row-writer, boardOf, into-same, is-total, optimal}
 use Rattle.solver.proofs.CheckLaws.{checks-sound, lent-passed}
-use Rattle.solver.proofs.Machine.{fits-here, numbered, unit-same}
+use Rattle.solver.proofs.Machine.{numbered, unit-same}
 use Rattle.solver.proofs.Progress.{progress}
 
 long-is : (w h : ℕ) → h * (2 ^ w * 2 ^ w) + h ≡ boardLength w h
@@ -62,7 +62,7 @@ module _ {rule : Rule} {w h : ℕ} (z : Frame rule w h) (g : List ℕ) where
     into = λ rows E β size. into-same z g rows E β size;
     best = λ x rows T. (optimal z g x rows T, is-total z g x rows T);
     none = λ n b S. n (allRows w h b) (solution-ends (z .allowed) (S .grid) g S);
-    progress = λ wanted before now O f o F E C. progress z g wanted before now O (fits-here z g (now .job) O f) o F E C;
+    progress = λ wanted before now O f o F E C. progress z g wanted before now O f o F E C;
   }
 
 -- ---- the theorem
@@ -76,7 +76,7 @@ opened-frame rule w h g j e =
 pub third-demand : ThirdDemand
 unfolding ThirdDemand
 third-demand rule w h g t β r j O e =
-    let z = opened-frame rule w h g j (sym (ap openedSays e) ∙ O .says) in
+    let z = opened-frame rule w h g j (sym (ap jobResultSays e) ∙ O .says) in
     subst (λ (x : Job). Demand grid (aimOf (gridKind rule w h g)) g (record { job = x; table = t; board = β })) (sym (O .job j e))
     (kind-meets-demand (List ℕ) lentCheck unitOf g (gridKind rule w h g) (kind-shows z g) (record { job = start rule w h; table = t; board = β }) (record {
       of = record { ruled = refl; wide = refl; tall = refl };

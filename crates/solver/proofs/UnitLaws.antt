@@ -24,7 +24,7 @@ use Rattle.solver.specs.Inner.{Lent, Chooses}
 use Rattle.score_table.specs.Inner.{Memory, EntryRead}
 use Rattle.job.specs.declared.Job.{Job}
 use Rattle.job.proofs.Shapes.{board-long, fill-at, row-at, layer-in}
-use Rattle.job.proofs.Fits.{fits-at}
+use Rattle.job.proofs.Fits.{fits-frame}
 use Rattle.job.proofs.Next.{fits-until}
 use Rattle.solver.proofs.Writing.{written-length}
 use Rattle.solver.proofs.Machine.{follows}
@@ -39,8 +39,7 @@ pub record Fit (j j′ : Job) : Type 0 where
 
 pub unit-fits : (g : List ℕ) (s s′ : State) → jobFits (s .job) ≡ true → unitOf g s ≡ next s′ → Fit (s .job) (s′ .job)
 unit-fits g s s′ f e =
-    let T = fits-at (s .job) f in
-    let H = follows (T .frame) g .moves s s′ (record { of = record { ruled = refl; wide = refl; tall = refl }; taken = f }) e .0 in
+    let H = follows (fits-frame (s .job) f) g .moves s s′ (record { of = record { ruled = refl; wide = refl; tall = refl }; taken = f }) e .0 in
     record { taken = H .taken; rule = H .of .ruled; width = H .of .wide; height = H .of .tall }
 
 -- ---- the memory
@@ -90,8 +89,7 @@ unit-lent g s s′ L e =
 -- ---- what they have shown, by the job's task
 pub lent-memory : {j : Job} {g t β : List ℕ} → Lent j g t β → Memory (j .width) (j .height) g
 lent-memory {j} L =
-    let T = fits-at j (L .taken) in
-    record { narrow = T .frame .size .narrow; low = T .frame .size .low; marks = L .marks }
+    let z = fits-frame j (L .taken) .size in record { narrow = z .narrow; low = z .low; marks = L .marks }
 
 -- where an entry is to be filled
 pub lent-read : {j : Job} {g t β : List ℕ} {k source target i : ℕ} → Lent j g t β → shapeOf (j .width) (j .height) .plan (j .units) ≡ fill k source target i

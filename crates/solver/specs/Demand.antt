@@ -2,10 +2,13 @@
 -- crate `service`.
 -- Assumes nothing.
 use mathlib.Core.Path.{_≡_}
+use mathlib.Core.Bool.{cond}
 use mathlib.Core.List.{List}
 use Prim.Native.Nat.{ℕ, _+_, _-_, _*_, _<_, min}
+use lib.Dec.{eqb}
 use lib.ListN.{length, getD}
 use Rattle.elimination.specs.Kind.{rightEntry}
+use Rattle.elimination.specs.Shape.{rowsChosen}
 use Rattle.elimination.specs.Progress.{Written}
 use Rattle.rule.specs.Rule.{nextUnder}
 use Rattle.rule.specs.declared.Rule.{Rule}
@@ -13,11 +16,10 @@ use Rattle.solver.specs.Grid.{Solution, Optimal, score}
 use Rattle.score_table.specs.ScoreTable.{kindOf, rowsAfter, rowA, rowB, unitPlace}
 use Rattle.board.specs.Checks.{tableSize}
 use Rattle.life.specs.Rows.{rowOf}
-use Rattle.job.specs.Jobs.{shapeOf, aboveOf, lastOf, liveOf}
+use Rattle.job.specs.Jobs.{shapeOf, aboveOf, lastOf, liveOf, markOf}
 use Rattle.job.specs.Calls.{Opens}
-use Rattle.job.specs.declared.Stage.{Stage}
 use Rattle.job.specs.declared.Job.{Job}
-use Rattle.job.specs.declared.Opened.{Opened}
+use Rattle.job.specs.declared.JobResult.{JobResult}
 use Rattle.service.specs.Demand.{Demand}
 use Rattle.service.specs.JobKinds.{JobKind, aimOf}
 use Rattle.solver.specs.Units.{State, setupOf, grid}
@@ -34,31 +36,23 @@ pub record Filled (rule : Rule) (w h : ℕ) (givens : List ℕ) (n : ℕ) (befor
   pub right : (u : ℕ) → u < n → getD now (unitPlace w h u) 0 ≡ rightUnit rule w h givens u
   pub rest : (p : ℕ) → ((u : ℕ) → u < n → p ≡ unitPlace w h u → ⊥) → getD now p 0 ≡ getD before p 0
 
--- the entries written; the rows chosen, which are the units beyond; and the one unit of a job that ended with none, which writes and chooses nothing
+-- the entries written; the rows chosen, which are the units beyond, by the end mark; and the one unit of a job that ended with none, which writes
+-- and chooses nothing
 abbrev pub entriesWritten : ℕ → ℕ → Job → ℕ
 entriesWritten w h j = min (j .units) (tableSize w h)
 
-abbrev pub chosenIn : Stage → ℕ → ℕ
-chosenIn (Stage.Filling above last live) beyond = 0
-chosenIn (Stage.Choosing above last live) beyond = beyond
-chosenIn (Stage.Finished above last score) beyond = beyond
-chosenIn Stage.Infeasible beyond = 0
-
 abbrev pub chosenRows : ℕ → ℕ → Job → ℕ
-chosenRows w h j = chosenIn (j .stage) (j .units - tableSize w h)
+chosenRows w h j = rowsChosen (shapeOf w h) (j .units) (markOf (j .stage))
 
-abbrev pub idleUnits : Stage → ℕ
-idleUnits (Stage.Filling above last live) = 0
-idleUnits (Stage.Choosing above last live) = 0
-idleUnits (Stage.Finished above last score) = 0
-idleUnits Stage.Infeasible = 1
+abbrev pub idleUnits : Job → ℕ
+idleUnits j = cond (eqb (markOf (j .stage)) 2) 1 0
 
 -- the job is still of the opened rule and grid, and the units done are the entries written and the rows chosen
 pub record Progress (rule : Rule) (w h : ℕ) (givens wanted : List ℕ) (before now : State) : Type 0 where
   pub ruled : now .job .rule ≡ rule
   pub width : now .job .width ≡ w
   pub height : now .job .height ≡ h
-  pub units : now .job .units ≡ entriesWritten w h (now .job) + chosenRows w h (now .job) + idleUnits (now .job .stage)
+  pub units : now .job .units ≡ entriesWritten w h (now .job) + chosenRows w h (now .job) + idleUnits (now .job)
   pub filled : Filled rule w h givens (entriesWritten w h (now .job)) (before .table) (now .table)
   pub written : Written w (chosenRows w h (now .job)) wanted (before .board) (now .board)
   -- with k rows chosen, row above is row k - 1 of the wanted board and last row is row k, each 0 until such a row is chosen; the live cells so far are
@@ -92,5 +86,5 @@ gridKind rule w h givens = record {
 -- every rule, width, height and givens that opening takes, every table and board contents and lengths, every list of calls
 unfoldable pub ThirdDemand : Type 0
 ThirdDemand =
-    (rule : Rule) (w h : ℕ) (givens table board : List ℕ) (r : Opened) (j : Job) → Opens rule w h givens r → r ≡ Opened.Ready j
+    (rule : Rule) (w h : ℕ) (givens table board : List ℕ) (r : JobResult) (j : Job) → Opens rule w h givens r → r ≡ JobResult.Ready j
     → Demand grid (aimOf (gridKind rule w h givens)) givens (record { job = j; table = table; board = board })

@@ -7,9 +7,8 @@ use crate::sizes::Size;
 use board::Refusal;
 use job::Checkpoint;
 use job::Job;
-use job::Opened;
+use job::JobResult;
 use job::Paused;
-use job::Resumed;
 use job::Stage;
 use rule::Rule;
 use solver::Status;
@@ -33,7 +32,7 @@ pub fn exact(s: Size) -> Lent {
     }
 }
 
-pub fn open(rule: Rule, w: usize, h: usize, givens: &[u8], n: usize) -> Opened {
+pub fn open(rule: Rule, w: usize, h: usize, givens: &[u8], n: usize) -> JobResult {
     let g = least(n, givens.len());
     job::open(rule, w, h, &givens[..g])
 }
@@ -41,8 +40,8 @@ pub fn open(rule: Rule, w: usize, h: usize, givens: &[u8], n: usize) -> Opened {
 // A grid's job, or none where opening is refused.
 pub fn opened(rule: Rule, s: Size, givens: &[u8]) -> Job {
     match open(rule, s.w, s.h, givens, s.cells) {
-        Opened::Ready(job) => job,
-        Opened::Refused(_) => no_job(),
+        JobResult::Ready(job) => job,
+        JobResult::Refused(_) => no_job(),
     }
 }
 
@@ -112,7 +111,7 @@ pub fn resumed(job: Job) -> Job {
     let Paused::Numbers(numbers) = job.pause() else {
         return no_job();
     };
-    let Resumed::Ready(next) = numbers.resume() else {
+    let JobResult::Ready(next) = numbers.resume() else {
         return no_job();
     };
     next

@@ -12,7 +12,7 @@ use crate::unit;
 use crate::unit::Ran;
 use job::Checkpoint;
 use job::Job;
-use job::Resumed;
+use job::JobResult;
 use rule::Rule;
 use solver::Status;
 use std::num;
@@ -64,7 +64,7 @@ fn print(name: &[u8], t: Tally) {
 fn try_job(rule: Rule, seed: usize, t: Tally) -> Tally {
     let s = random_size(seed);
     let numbers = random_numbers(rule, s, seed);
-    let Resumed::Ready(job) = numbers.resume() else {
+    let JobResult::Ready(job) = numbers.resume() else {
         return differs(b"a job that resuming refuses", t);
     };
     let start = Pair {

@@ -8,8 +8,8 @@ use crate::sizes::Size;
 use crate::unit;
 use job::Checkpoint;
 use job::Job;
+use job::JobResult;
 use job::Paused;
-use job::Resumed;
 use job::Stage;
 use rule::Rule;
 use std::num;
@@ -65,13 +65,13 @@ fn print_numbers(c: Checkpoint) {
 
 fn resumes_as(numbers: Checkpoint) -> usize {
     match numbers.resume() {
-        Resumed::Refused(r) => {
+        JobResult::Refused(r) => {
             if r.number() == 7 {
                 return 0;
             }
             2
         }
-        Resumed::Ready(job) => {
+        JobResult::Ready(job) => {
             if pauses_to(job, numbers) && calls::same_job(job, unit::job_of(numbers)) {
                 return 1;
             }

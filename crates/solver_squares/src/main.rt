@@ -1,8 +1,7 @@
 // The best still boards of the free squares of side 3 to 10: their scores, the units done, and that each is still.
 use job::Job;
-use job::Opened;
+use job::JobResult;
 use job::Paused;
-use job::Resumed;
 use job::Stage;
 use life::Verdict;
 use solver::Status;
@@ -57,11 +56,11 @@ fn least(a: usize, b: usize) -> usize
 
 fn solve_part(side: usize, givens: &[u8], table: &mut [u16], board: &mut [u8]) {
     match job::open(rule::conway(), side, side, givens) {
-        Opened::Ready(job) => {
+        JobResult::Ready(job) => {
             let ended = run(job, givens, table, board);
             print(side, ended, board);
         }
-        Opened::Refused(r) => report::refusal(r),
+        JobResult::Refused(r) => report::refusal(r),
     }
 }
 
@@ -80,7 +79,7 @@ fn pause_and_resume(job: Job) -> Job {
         report::text(b", pausing refused");
         return job;
     };
-    let Resumed::Ready(next) = numbers.resume() else {
+    let JobResult::Ready(next) = numbers.resume() else {
         report::text(b", resuming refused");
         return job;
     };

@@ -10,18 +10,18 @@ use Rattle.board.specs.declared.Refusal.{Refusal}
 use Rattle.board.proofs.Answers.{turned-away, passed-on}
 use Rattle.rule.specs.declared.Rule.{Rule}
 use Rattle.job.specs.declared.Job.{Job}
-use Rattle.job.specs.declared.Opened.{Opened}
+use Rattle.job.specs.declared.JobResult.{JobResult}
 use Rattle.job.specs.Jobs.{openRule}
 use Rattle.job.specs.Calls.{Opens}
 use Rattle.job.proofs.open.Statement.{statement}
 use Rattle.job.proofs.open.Tie as tie
 
 -- a refusal hands out no job
-refused : {rule : Rule} {w h : ℕ} {givens : List ℕ} {r : Refusal} → refusalSays r ≡ openRule rule w h givens → Opens rule w h givens (Opened.Refused r)
+refused : {rule : Rule} {w h : ℕ} {givens : List ℕ} {r : Refusal} → refusalSays r ≡ openRule rule w h givens → Opens rule w h givens (JobResult.Refused r)
 refused e = record { says = e; job = λ j q. absurd (let z : _≡_ {A = ℕ} 0 1 = cc in omega arith) }
 
 -- what is handed out is the job that was made
-handed : {i j : Job} → Opened.Ready i ≡ Opened.Ready j → j ≡ i
+handed : {i j : Job} → JobResult.Ready i ≡ JobResult.Ready j → j ≡ i
 handed e = cc
 
 check-requires : tie.Need-check-requires

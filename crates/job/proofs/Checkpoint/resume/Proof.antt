@@ -8,7 +8,7 @@ use borrow.Author.Needs.{needs}
 use borrow.Author.Tests.{not-true, not-false}
 use Rattle.job.specs.Jobs.{checkpointFits, resumeRule}
 use Rattle.job.specs.declared.Job.{Job}
-use Rattle.job.specs.declared.Resumed.{Resumed}
+use Rattle.job.specs.declared.JobResult.{JobResult}
 use Rattle.job.proofs.Checkpoints.{numbers-back}
 use Rattle.job.proofs.Fits.{numbers-at}
 use Rattle.job.proofs.Checkpoint.resume.Statement.{statement}
@@ -19,7 +19,7 @@ numbers-fit : (c : tie.Else1) → checkpointFits (c .before .before .args .self)
 numbers-fit c = sym (c .before .checkpoint-fits .ensures) ∙ not-false _ (c .if1 .left)
 
 -- what is handed out is the job that was made
-handed : {i j k : Job} → Resumed.Ready i ≡ Resumed.Ready j → i ≡ k → j ≡ k
+handed : {i j k : Job} → JobResult.Ready i ≡ JobResult.Ready j → i ≡ k → j ≡ k
 handed e f = cc
 
 checkpoint-fits-requires : tie.Need-checkpoint-fits-requires
