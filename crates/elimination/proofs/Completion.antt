@@ -74,7 +74,7 @@ module _ {X B : Type 0} (J : Setup X B) (S : Schedule) (P : SoundPlan (J .kind) 
   span-start (suc k) r =
       let e : suc r + k ≡ r + suc k = omega arith in
       let f : S .start (suc r + k) ≡ S .start (r + suc k) = ap (S .start) e in
-      omega (arith, P .next r, span-start k (suc r))
+      omega (arith, P .scheduled .next r, span-start k (suc r))
 
   -- before the filling for row r; and after m units of it
   abbrev atRow : ℕ → ℕ → ℕ → X → List X → B → State X B
@@ -87,7 +87,7 @@ module _ {X B : Type 0} (J : Setup X B) (S : Schedule) (P : SoundPlan (J .kind) 
   module _ (r : ℕ) (hr : r < h) (a b : ℕ) (x : X) (t : List X) (β : B) where
     fill-step : (m : ℕ) → m < S .work r → unit J (inFill m r a b x t β) ≡ inFill (suc m) r a b x t β
     unfolding afterTasks
-    fill-step m l = unit-running J (inFill m r a b x t β) refl ∙ act-fill J (J .plan (S .start r + m)) (P .fills r m hr l) (inFill m r a b x t β) ∙ rw add-suc
+    fill-step m l = unit-running J (inFill m r a b x t β) refl ∙ act-fill J (J .plan (S .start r + m)) (P .scheduled .fills r m hr l) (inFill m r a b x t β) ∙ rw add-suc
 
     fill-run : (p m : ℕ) → m + p ≡ S .work r → Runs (machine J) (inFill (S .work r) r a b x t β) (inFill m r a b x t β) p
     fill-run zero m e = subst (λ (v : ℕ). Runs (machine J) (inFill (S .work r) r a b x t β) (inFill v r a b x t β) 0) (omega arith) here
@@ -103,7 +103,7 @@ module _ {X B : Type 0} (J : Setup X B) (S : Schedule) (P : SoundPlan (J .kind) 
     choose-step : P .Ready r t → b < G .codes
         → unit J (inFill (S .work r) r a b x t β) ≡ takeRow J r (inFill (S .work r) r a b x t β) (choose G (h - suc r) a b (rightEntry G (h - suc r) b))
     choose-step y hb =
-        unit-row J (inFill (S .work r) r a b x t β) r (S .source r) refl (P .chooses r hr)
+        unit-row J (inFill (S .work r) r a b x t β) r (S .source r) refl (P .scheduled .chooses r hr)
         ∙ ap (takeRow J r (inFill (S .work r) r a b x t β)) (choose-right G (afterWork G (J .plan) S r t) (S .source r) (h - suc r) (P .right r t hr y) a b hb)
 
     row-step : (k c : ℕ) (v : X) → r + suc k ≡ h → P .Ready r t → b < G .codes → choose G k a b (rightEntry G k b) ≡ chosen c v
@@ -111,7 +111,7 @@ module _ {X B : Type 0} (J : Setup X B) (S : Schedule) (P : SoundPlan (J .kind) 
     row-step k c v e y hb p =
         let ek : h - suc r ≡ k = omega arith in
         let q : choose G (h - suc r) a b (rightEntry G (h - suc r) b) ≡ chosen c v = rw ek p in
-        choose-step y hb ∙ rw (q, ek, P .next r)
+        choose-step y hb ∙ rw (q, ek, P .scheduled .next r)
 
   -- the end of a job that chooses the k rows cs from row r on
   abbrev rowsEnd : ℕ → List ℕ → ℕ → ℕ → ℕ → X → List X → B → State X B
@@ -151,7 +151,7 @@ module _ {X B : Type 0} (J : Setup X B) (S : Schedule) (P : SoundPlan (J .kind) 
           (runs-more (machine J) (inFill (S .work r) r a b x t β)
           (row-step r hr a b x t β k c v e y hb p ∙ ap (λ (j : ℕ). atRow (suc r) b c (G .add j c x) t′ (J .write r c β)) (sym len))
           refl
-          (P .next r)
+          (P .scheduled .next r)
           (ih c (G .add (length (rightRows G k b c)) c x) t′ (J .write r c β) (omega arith) (P .again r t hr y) (l .0) (l .2)))
 
   -- where there is no first row, the job ends with none
@@ -163,21 +163,21 @@ module _ {X B : Type 0} (J : Setup X B) (S : Schedule) (P : SoundPlan (J .kind) 
       let q : choose G (h - suc 0) 0 0 (rightEntry G (h - suc 0) 0) ≡ nothing = rw ek p in
       subst (λ (m : ℕ). Runs (machine J) (noneEnd J S t β) (atRow 0 0 0 (G .start) t β) m) (omega arith)
       (runs-add (machine J) (row-fill-run 0 hr 0 0 (G .start) t β)
-      (runs-more (machine J) (inFill (S .work 0) 0 0 0 (G .start) t β) (choose-step 0 hr 0 0 (G .start) t β y hb ∙ rw (q, P .first, zero-add)) refl (omega (arith, P .first)) here))
+      (runs-more (machine J) (inFill (S .work 0) 0 0 0 (G .start) t β) (choose-step 0 hr 0 0 (G .start) t β y hb ∙ rw (q, P .scheduled .first, zero-add)) refl (omega (arith, P .scheduled .first)) here))
 
   module _ (L : Laws G h) (high : 0 < h) (wide : 0 < G .codes) (t : List X) (ready : P .Ready 0 t) (β : B) where
     start-opened : atRow 0 0 0 (G .start) t β ≡ opened G t β
-    start-opened = rw (P .first, lt-ltb 0 h high)
+    start-opened = rw (P .scheduled .first, lt-ltb 0 h high)
 
     span-all : span h 0 ≡ S .start h
     span-all =
         let e : 0 + h ≡ h = omega arith in
         let f : S .start (0 + h) ≡ S .start h = ap (S .start) e in
-        omega (arith, P .first, span-start h 0)
+        omega (arith, P .scheduled .first, span-start h 0)
 
     -- a run to an ended state comes to it
     comes-to : {s′ : State X B} {m : ℕ} → Runs (machine J) s′ (atRow 0 0 0 (G .start) t β) m → ended s′ ≡ true → ComesTo (machine J) (opened G t β) s′ m
-    comes-to {s′} r e = rw start-opened at (runs-come (machine J) r (P .first) e (unit-ended J s′ e))
+    comes-to {s′} r e = rw start-opened at (runs-come (machine J) r (P .scheduled .first) e (unit-ended J s′ e))
 
     completes : Completion J S t β
     completes = go (elimination-solves G h L h 0 0 (omega arith))

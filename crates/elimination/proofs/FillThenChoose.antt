@@ -11,7 +11,8 @@ use lib.Arith.{digits-lt, digits-div, digits-mod}
 use Rattle.elimination.specs.Kind.{Kind}
 use Rattle.elimination.specs.Table.{layerSize}
 use Rattle.elimination.specs.Task.{Task, fill, row, isFill}
-use Rattle.elimination.specs.Places.{writes, Stands, Orderly, Scheduled}
+use Rattle.elimination.specs.Plan.{Scheduled}
+use Rattle.elimination.specs.Places.{writes, Stands, Orderly}
 use Rattle.elimination.specs.FillThenChoose.{fillAt, place, chooseAt, plan, startOf, workOf, schedule, Lengths, fillThenChoose, FillThenChooseCompletes}
 use Rattle.elimination.proofs.Numbers.{lt-or-ge}
 use Rattle.elimination.proofs.Task.{row-not-fill}
@@ -151,12 +152,8 @@ module _ (h q : ℕ) where
   chooses zero hr = rw zero-add (rw add-zero at (plan-row h q 0))
   chooses (suc r) hr = rw add-zero (plan-row h q (suc r))
 
-  within : (r : ℕ) → r < h → startOf h q r + workOf h q r < h * q + h
-  within zero l = omega arith
-  within (suc r) l = omega arith
-
-  pub scheduled : Scheduled h (h * q + h) (plan h q) (schedule h q)
-  scheduled = record { first = refl; next = next; fills = fills; chooses = chooses; within = within }
+  pub scheduled : Scheduled h (plan h q) (schedule h q)
+  scheduled = record { first = refl; next = next; fills = fills; chooses = chooses }
 
 pub orderly : (codes h : ℕ) → 0 < codes * codes → Orderly codes h (h * (codes * codes)) (h * (codes * codes) + h) (plan h (codes * codes))
 orderly codes h some = record {
@@ -176,5 +173,5 @@ schedule-lengths h q high = record { board = go h high; none = omega arith }
 pub fill-then-choose-completes : {X B : Type 0} (G : Kind X) (h : ℕ) (write : ℕ → ℕ → B → B) → FillThenChooseCompletes G h write
 fill-then-choose-completes G h write L high wide t long β =
     let q = layerSize G in
-    let P = orderly-sound G h (h * q) (h * q + h) (plan h q) (schedule h q) (orderly (G .codes) h (mul-le-mul wide wide)) (scheduled h q) wide in
+    let P = orderly-sound G h (h * q) (h * q + h) (plan h q) (schedule h q) (orderly (G .codes) h (mul-le-mul wide wide)) (scheduled h q) (omega (arith, schedule-lengths h q high .board)) wide in
     job-completes (fillThenChoose G h write) (schedule h q) L high wide (P .0) t (P .1 t long) β

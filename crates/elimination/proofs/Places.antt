@@ -13,8 +13,8 @@ use lib.Seq.{getD-set-same, getD-set-other}
 use Rattle.elimination.specs.Kind.{Kind, entry}
 use Rattle.elimination.specs.Table.{reads, rightAt, RightLayer}
 use Rattle.elimination.specs.Task.{Task, fill, row, fillTask, afterTasks}
-use Rattle.elimination.specs.Plan.{Schedule, afterWork, SoundPlan}
-use Rattle.elimination.specs.Places.{writes, Stands, Filled, Orderly, Scheduled, TableFilled, OrderlySound}
+use Rattle.elimination.specs.Plan.{Schedule, Scheduled, afterWork, SoundPlan}
+use Rattle.elimination.specs.Places.{writes, Stands, Filled, Orderly, TableFilled, OrderlySound}
 use Rattle.elimination.proofs.Numbers.{eq-or-lt-of-lt-suc}
 use Rattle.elimination.proofs.Kind.{right-entry-last}
 use Rattle.elimination.proofs.Task.{row-not-fill, tasks-none, tasks-more, tasks-add}
@@ -84,7 +84,22 @@ pub table-filled : {X : Type 0} (G : Kind X) → TableFilled G
 table-filled G h room long plan O wide t₀ r m l = filled G O wide t₀ r m l
 
 -- ---- soundness
-module _ {X : Type 0} (G : Kind X) {h room long : ℕ} {plan : ℕ → Task} {S : Schedule} (O : Orderly (G .codes) h room long plan) (C : Scheduled h long plan S) (wide : 0 < G .codes) where
+-- a row is chosen before the next one's filling starts, and so before the last row is spent
+module _ {h : ℕ} {plan : ℕ → Task} {S : Schedule} (C : Scheduled h plan S) where
+  starts-rise : (d r : ℕ) → S .start r ≤ S .start (r + d)
+  starts-rise zero r = let e : r + 0 ≡ r = omega arith in rw e (omega arith)
+  starts-rise (suc d) r =
+      let e : r + suc d ≡ suc (r + d) = omega arith in
+      rw e (omega (arith, starts-rise d r, C .next (r + d)))
+
+  pub row-before : (r : ℕ) → r < h → S .start r + S .work r < S .start h
+  row-before r l =
+      let e : suc r + (h - suc r) ≡ h = omega arith in
+      let m : S .start (suc r) ≤ S .start h = rw e at (starts-rise (h - suc r) (suc r)) in
+      omega (arith, C .next r)
+
+module _ {X : Type 0} (G : Kind X) {h room long : ℕ} {plan : ℕ → Task} {S : Schedule} (O : Orderly (G .codes) h room long plan) (C : Scheduled h plan S) (spent : S .start h ≤ long)
+    (wide : 0 < G .codes) where
   -- the table is what the units before row r left of one with room
   abbrev Ready : ℕ → List X → Type 0
   Ready r t = (t₀ : List X) × (room ≤ length t₀) × (t ≡ afterTasks G plan 0 (S .start r) t₀)
@@ -97,20 +112,21 @@ module _ {X : Type 0} (G : Kind X) {h room long : ℕ} {plan : ℕ → Task} {S 
 
   right : (r : ℕ) (t : List X) → r < h → Ready r t → RightLayer G (afterWork G plan S r t) (S .source r) (h - suc r)
   right r t l y =
+      let in-time : at r < long = omega (arith, row-before C r l, spent) in
       rw (worked r t y)
-      (λ j b. filled G O wide (y .0) (y .1) (at r) (omega (arith, C .within r l)) .right (S .source r + j) (h - suc r) j
-      (O .chooses (at r) r (S .source r) (C .within r l) (C .chooses r l) j b))
+      (λ j b. filled G O wide (y .0) (y .1) (at r) (omega (arith, in-time)) .right (S .source r + j) (h - suc r) j
+      (O .chooses (at r) r (S .source r) in-time (C .chooses r l) j b))
 
   again : (r : ℕ) (t : List X) → r < h → Ready r t → Ready (suc r) (afterWork G plan S r t)
   again r t l y =
       (y .0, y .1, worked r t y ∙ sym (ap (λ (m : ℕ). afterTasks G plan 0 m (y .0)) (C .next r) ∙ tasks-more G plan (at r) (y .0) ∙ ap (λ (o : Task). fillTask G o (afterTasks G plan 0 (at r) (y .0))) (C .chooses r l)))
 
   pub sound : SoundPlan G h plan S
-  sound = record { Ready = Ready; first = C .first; next = C .next; fills = C .fills; chooses = C .chooses; right = right; again = again }
+  sound = record { scheduled = C; Ready = Ready; right = right; again = again }
 
   pub ready : (t : List X) → room ≤ length t → Ready 0 t
   ready t r = (t, r, sym (ap (λ (m : ℕ). afterTasks G plan 0 m t) (C .first) ∙ tasks-none G plan t))
 
 pub orderly-sound : {X : Type 0} (G : Kind X) → OrderlySound G
 unfolding sound
-orderly-sound G h room long plan S O C wide = (sound G O C wide, ready G O C wide)
+orderly-sound G h room long plan S O C spent wide = (sound G O C spent wide, ready G O C spent wide)

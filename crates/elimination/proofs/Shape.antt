@@ -15,6 +15,7 @@ use Rattle.elimination.specs.Shape.{Shape, Numbers, unitsFit, rowsChosen
 use Rattle.elimination.proofs.Numbers.{lt-or-ge}
 use Rattle.elimination.proofs.Task.{row-not-fill}
 use Rattle.elimination.proofs.FillThenChoose.{plan-fill, plan-late}
+use Rattle.elimination.proofs.Places.{row-before}
 use Rattle.elimination.proofs.TwoLayers as Twos
 
 -- ---- tests as facts
@@ -300,7 +301,7 @@ two-lawful codes h most wide high = record {
         go (Twos.fills r m lr lm is) =
             let e : suc u ≡ Two.startOf h q r + suc m = omega arith in (
               ap (chosenFrom q h) e ∙ chosen-here h q r (suc m) lr lm ∙ sym (ap (chosenFrom q h) is ∙ chosen-here h q r m lr (omega arith)),
-              omega (arith, Twos.within h q some r lr),
+              omega (arith, row-before (Twos.scheduled h q some) r lr),
             )
         go (Twos.chooses r lr is) = row-not-fill (sym (Twos.plan-row h q r lr) ∙ ap (Two.plan h q) (sym is) ∙ p)
 
@@ -312,7 +313,7 @@ two-lawful codes h most wide high = record {
     goes-on : (u r source : ℕ) → u < Two.startOf h q h → Two.plan h q u ≡ row r source → suc r < h → suc u < Two.startOf h q h
     goes-on u r source l p m =
         let e = late u r source l p in
-        omega (arith, e .0, Twos.start-more h q r, Twos.within h q some (suc r) m)
+        omega (arith, e .0, Twos.start-more h q r, row-before (Twos.scheduled h q some) (suc r) m)
 
     ends : (u r source : ℕ) → u < Two.startOf h q h → Two.plan h q u ≡ row r source → h ≤ suc r → suc u ≡ Two.startOf h q h
     ends u r source l p m =

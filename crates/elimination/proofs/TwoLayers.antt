@@ -4,14 +4,15 @@ use mathlib.Core.Path.{_≡_, refl, sym, _∙_, ap, ap₂}
 use mathlib.Core.Bool.{false}
 use mathlib.Core.Logic.{⊎-elim}
 use Prim.Native.Nat.{ℕ, zero, suc, _+_, _-_, _*_, _/_, _%_, _≤_, _<_}
-use native.Mathlib.Nat.{add-zero, zero-add, mod-lt, mul-le-mul, mul-le-mul-right, div-lt-iff-lt-mul, div-add-mod', eq-or-lt-of-le, add-sub-cancel-left}
+use native.Mathlib.Nat.{zero-add, mod-lt, mul-le-mul, mul-le-mul-right, div-lt-iff-lt-mul, div-add-mod', eq-or-lt-of-le, add-sub-cancel-left}
 use native.Mathlib.Omega.{arith}
 use borrow.Author.Tests.{lt-ltb, le-ltb, eq-eqb, ne-eqb}
 use lib.Arith.{digits-lt, digits-div, digits-mod}
 use Rattle.elimination.specs.Kind.{Kind}
 use Rattle.elimination.specs.Table.{layerSize}
 use Rattle.elimination.specs.Task.{fill, row, isFill}
-use Rattle.elimination.specs.Places.{writes, Stands, Orderly, Scheduled}
+use Rattle.elimination.specs.Plan.{Scheduled}
+use Rattle.elimination.specs.Places.{writes, Stands, Orderly}
 use Rattle.elimination.specs.TwoLayers.{half, fillIn, planFrom, plan, startOf, schedule, Lengths, twoLayers, TwoLayersComplete}
 use Rattle.elimination.proofs.Numbers.{lt-or-ge}
 use Rattle.elimination.proofs.Task.{row-not-fill}
@@ -201,25 +202,12 @@ module _ (h q : ℕ) (some : 0 < q) where
             rw (is, ← source-is) (stands r′ (h - suc r) i ((h - r′) * q) lr (omega arith) li (omega arith) (omega arith) (omega arith))
 
   -- and follows its schedule
-  start-mono : (d r : ℕ) → startOf h q r ≤ startOf h q (r + d)
-  start-mono zero r = rw (add-zero r) (omega arith)
-  start-mono (suc d) r =
-      let e : r + suc d ≡ suc (r + d) = omega arith in
-      rw e (omega (arith, start-mono d r, start-more h q (r + d)))
-
-  pub within : (r : ℕ) → r < h → startOf h q r + (h - r) * q < startOf h q h
-  within r l =
-      let e : suc r + (h - suc r) ≡ h = omega arith in
-      let m : startOf h q (suc r) ≤ startOf h q h = rw e at (start-mono (h - suc r) (suc r)) in
-      omega (arith, start-more h q r)
-
-  pub scheduled : Scheduled h (startOf h q h) (plan h q) (schedule h q)
+  pub scheduled : Scheduled h (plan h q) (schedule h q)
   scheduled = record {
     first = start-first h q;
     next = start-more h q;
     fills = λ r m l b. ap isFill (plan-fill h q r m l b);
     chooses = plan-row h q;
-    within = within;
   }
 
 pub orderly : (codes h : ℕ) → 0 < codes * codes → Orderly codes h (2 * (codes * codes)) (startOf h (codes * codes) h) (plan h (codes * codes))
@@ -234,5 +222,5 @@ pub two-layers-complete : {X B : Type 0} (G : Kind X) (h : ℕ) (write : ℕ →
 two-layers-complete G h write L high wide t long β =
     let q = layerSize G in
     let some : 0 < q = mul-le-mul wide wide in
-    let P = orderly-sound G h (2 * q) (startOf h q h) (plan h q) (schedule h q) (orderly (G .codes) h some) (scheduled h q some) wide in
+    let P = orderly-sound G h (2 * q) (startOf h q h) (plan h q) (schedule h q) (orderly (G .codes) h some) (scheduled h q some) (omega arith) wide in
     job-completes (twoLayers G h write) (schedule h q) L high wide (P .0) t (P .1 t long) β

@@ -2,15 +2,15 @@
 -- is orderly: what a unit reads was written before it. Then it is sound.
 -- Assumes nothing.
 use mathlib.Core.Path.{_≡_}
-use mathlib.Core.Bool.{Bool, false, true}
+use mathlib.Core.Bool.{Bool, false}
 use mathlib.Core.List.{List}
 use Prim.Native.Nat.{ℕ, suc, _+_, _*_, _-_, _≤_, _<_}
 use lib.Dec.{eqb}
 use lib.ListN.{length, getD}
 use Rattle.elimination.specs.Kind.{Kind}
 use Rattle.elimination.specs.Table.{rightAt}
-use Rattle.elimination.specs.Task.{Task, fill, row, isFill, afterTasks}
-use Rattle.elimination.specs.Plan.{Schedule, SoundPlan}
+use Rattle.elimination.specs.Task.{Task, fill, row, afterTasks}
+use Rattle.elimination.specs.Plan.{Schedule, Scheduled, SoundPlan}
 
 -- the task writes place p
 abbrev pub writes : Task → ℕ → Bool
@@ -42,14 +42,6 @@ pub record Orderly (codes h room long : ℕ) (plan : ℕ → Task) : Type 0 wher
   pub chooses : (u r source : ℕ) → u < long → plan u ≡ row r source
       → (i : ℕ) → i < codes * codes → Stands plan u (source + i) (h - suc r) i
 
--- the plan follows the schedule, for boards of h rows
-pub record Scheduled (h long : ℕ) (plan : ℕ → Task) (S : Schedule) : Type 0 where
-  pub first : S .start 0 ≡ 0
-  pub next : (r : ℕ) → S .start (suc r) ≡ suc (S .start r + S .work r)
-  pub fills : (r m : ℕ) → r < h → m < S .work r → isFill (plan (S .start r + m)) ≡ true
-  pub chooses : (r : ℕ) → r < h → plan (S .start r + S .work r) ≡ row r (S .source r)
-  pub within : (r : ℕ) → r < h → S .start r + S .work r < long
-
 module _ {X : Type 0} (G : Kind X) where
   -- THE TABLE INVARIANT of any orderly plan, after any of its units, from any contents
   abbrev pub TableFilled : Type 0
@@ -58,5 +50,5 @@ module _ {X : Type 0} (G : Kind X) where
 
   -- an orderly plan that follows a schedule is sound; a table with room for it is ready for the first row
   abbrev pub OrderlySound : Type 1
-  OrderlySound = (h room long : ℕ) (plan : ℕ → Task) (S : Schedule) → Orderly (G .codes) h room long plan → Scheduled h long plan S → 0 < G .codes
+  OrderlySound = (h room long : ℕ) (plan : ℕ → Task) (S : Schedule) → Orderly (G .codes) h room long plan → Scheduled h plan S → S .start h ≤ long → 0 < G .codes
       → (P : SoundPlan G h plan S) × ((t : List X) → room ≤ length t → P .Ready 0 t)

@@ -17,18 +17,22 @@ pub record Schedule : Type 0 where
   -- where row r's layer starts in the table when row r is chosen
   pub source : ℕ → ℕ
 
+-- the plan follows the schedule, for boards of h rows: before row r it fills, then it chooses row r
+pub record Scheduled (h : ℕ) (plan : ℕ → Task) (S : Schedule) : Type 0 where
+  pub first : S .start 0 ≡ 0
+  pub next : (r : ℕ) → S .start (suc r) ≡ suc (S .start r + S .work r)
+  pub fills : (r m : ℕ) → r < h → m < S .work r → isFill (plan (S .start r + m)) ≡ true
+  pub chooses : (r : ℕ) → r < h → plan (S .start r + S .work r) ≡ row r (S .source r)
+
 module _ {X : Type 0} (G : Kind X) where
   -- the table after the filling before row r
   abbrev pub afterWork : (ℕ → Task) → Schedule → ℕ → List X → List X
   afterWork plan S r t = afterTasks G plan (S .start r) (S .work r) t
 
-  -- The plan follows the schedule for boards of h rows: before row r it fills, then it chooses row r. From a table that is ready for row r, which
-  -- is what the plan needs of it, row r's layer is right once filled, and the table is then ready for the next row.
+  -- From a table that is ready for row r, which is what the plan needs of it, row r's layer is right once filled, and the table is then ready for
+  -- the next row.
   pub record SoundPlan (h : ℕ) (plan : ℕ → Task) (S : Schedule) : Type 1 where
+    pub scheduled : Scheduled h plan S
     pub Ready : ℕ → List X → Type 0
-    pub first : S .start 0 ≡ 0
-    pub next : (r : ℕ) → S .start (suc r) ≡ suc (S .start r + S .work r)
-    pub fills : (r m : ℕ) → r < h → m < S .work r → isFill (plan (S .start r + m)) ≡ true
-    pub chooses : (r : ℕ) → r < h → plan (S .start r + S .work r) ≡ row r (S .source r)
     pub right : (r : ℕ) (t : List X) → r < h → Ready r t → RightLayer G (afterWork plan S r t) (S .source r) (h - suc r)
     pub again : (r : ℕ) (t : List X) → r < h → Ready r t → Ready (suc r) (afterWork plan S r t)

@@ -1,9 +1,9 @@
 -- What the tests of nine numbers show one after the other, and that the job of nine numbers that fit has those numbers.
 -- Assumes nothing.
-use mathlib.Core.Path.{_≡_, refl, sym, _∙_, ap}
+use mathlib.Core.Path.{_≡_, refl, _∙_, ap}
 use mathlib.Core.Bool.{Bool, true, false, not, _&&_}
 use mathlib.Core.List.{List}
-use Prim.Native.Nat.{ℕ, _+_, _*_, _-_, _/_, _^_, _≤_, _<_}
+use Prim.Native.Nat.{ℕ, _+_, _*_, _/_, _^_, _≤_, _<_}
 use native.Mathlib.Nat.{div-eq-of-lt, lt-div-mul-add}
 use native.Mathlib.Omega.{arith}
 use native.Mathlib.Decide.{decLt}
@@ -12,8 +12,8 @@ use Rattle.board.specs.Answers.{refuses, refuseUnless, _then_}
 use Rattle.board.specs.Boards.{maxWidth, maxHeight, among}
 use Rattle.board.specs.Checks.{sizeCheck}
 use Rattle.elimination.specs.Task.{isFill}
-use Rattle.elimination.specs.Shape.{Shape, unitsFit, rowsChosen}
-use Rattle.elimination.proofs.Shape.{Rows, Units, runs, ends, fails, units-at}
+use Rattle.elimination.specs.Shape.{Shape, rowsChosen}
+use Rattle.elimination.proofs.Shape.{Rows, Units, runs, ends, fails}
 use Rattle.rule.specs.Rule.{ruleFits, ruleCheck, gridCheck}
 use Rattle.rule.specs.declared.Rule.{Rule}
 use Rattle.job.specs.Jobs.{shapeOf, checkpointFits, numbersOf, stageFits, jobFits, stageOf, jobOf, jobSays, checkpointSays}

@@ -11,9 +11,9 @@ use lib.Pow.{pow-pos}
 use Rattle.board.specs.Boards.{maxWidth}
 use Rattle.board.specs.Checks.{tableSize}
 use Rattle.board.proofs.Powers.{four-two, four-pos, four-le, table-four}
-use Rattle.elimination.specs.Task.{Task, fill, row, isFill}
+use Rattle.elimination.specs.Task.{fill, row, isFill}
 use Rattle.elimination.specs.FillThenChoose.{plan}
-use Rattle.elimination.specs.Shape.{Shape, ShapeLaws, whole}
+use Rattle.elimination.specs.Shape.{ShapeLaws, whole}
 use Rattle.elimination.proofs.FillThenChoose.{plan-fill, plan-row}
 use Rattle.elimination.proofs.Shape.{whole-lawful}
 use Rattle.job.specs.Jobs.{boardLength, noneLength, shapeOf}

@@ -1,6 +1,7 @@
 -- They hold, by computing.
 -- Assumes nothing.
 use mathlib.Core.Path.{refl}
+use mathlib.Core.List.{flatMap}
 use Rattle.board.specs.Search.{firstNot, allBelow}
 use Rattle.board.specs.Sums.{total}
 use Rattle.board.specs.Checks.{sizeCheck, cellsCheck, givensCheck, tableSize}
@@ -22,10 +23,10 @@ use Rattle.service.specs.Units.{unitBy}
 use Rattle.service.specs.Service.{workCheck, worksOn, workOf}
 use Rattle.solver.specs.Working.{lentCheck}
 use Rattle.solver.specs.Units.{unitOf}
-use Rattle.known.specs.Known.{solved, Known}
+use Rattle.known.specs.Known.{solved, chosenBy, Known}
 
 pub known : Known
-unfolding firstNot allBelow total sizeCheck cellsCheck givensCheck scan choose entry ruleCheck gridCheck nextUnder conway onPlane around cellOf becomes stepsTo nextAt keepsAt lifeCheck judged judgeRule linesOf Reading.judge Reading.judgeLines Reading.judged Reading.firstBad Reading.rowsOf Reading.widthOf Reading.sizeRule Reading.readRule markKept rowKept cellWorth rowWorth written tableSize unitsFit rowsChosen rowsFit numbersFit checkpointFits jobFits stageOf readCheck workCheck lentCheck reads fillEntry plan unitBy unitOf worksOn workOf solved
+unfolding flatMap firstNot allBelow total sizeCheck cellsCheck givensCheck scan choose entry ruleCheck gridCheck nextUnder conway onPlane around cellOf becomes stepsTo nextAt keepsAt lifeCheck judged judgeRule linesOf Reading.judge Reading.judgeLines Reading.judged Reading.firstBad Reading.rowsOf Reading.widthOf Reading.filled Reading.cellsOf Reading.boardOver Reading.sizeRule Reading.readRule markKept rowKept cellWorth rowWorth written tableSize unitsFit rowsChosen rowsFit numbersFit checkpointFits jobFits stageOf readCheck workCheck lentCheck reads fillEntry plan unitBy unitOf worksOn workOf solved chosenBy
 known = record {
   m1 = refl;
   m2 = refl;
@@ -40,4 +41,14 @@ known = record {
   one-given = refl;
   all-given = refl;
   free3 = refl;
+  spoiled = refl;
+  above-600 = refl;
+  up-to-600 = refl;
+  short-row = record { answers = refl; leaves = refl };
+  a-comment = record { answers = refl; leaves = refl };
+  cr-lf = record { answers = refl; leaves = refl };
+  two-crs = refl;
+  cr-in-a-row = refl;
+  cr-at-the-end = refl;
+  hash = refl;
 }

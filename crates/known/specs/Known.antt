@@ -1,30 +1,45 @@
--- Document 01, "Known boards": M1 to M10, the free 3 by 3 grid, and grids with live givens, stated of the rules themselves.
+-- Document 01, "Known boards": M1 to M10, the free 3 by 3 grid, grids with live givens, a spoiled table, and texts, stated of the rules themselves.
 -- Assumes nothing.
 use mathlib.Core.Path.{_≡_}
 use mathlib.Core.List.{List, [], _∷_}
 use Prim.Native.Nat.{ℕ, _*_}
 use lib.ListN.{replicate}
-use Rattle.board.specs.Answers.{Answer, gives}
+use Rattle.board.specs.Answers.{Answer, gives, refuses}
 use Rattle.rule.specs.Rule.{conwayRule, conway}
 use Rattle.life.specs.Calls.{judgeRule, still, changes}
-use Rattle.writer.specs.Letters.{LF, bigO}
-use Rattle.plaintext.specs.Reading.{readRule}
+use Rattle.writer.specs.Letters.{LF, CR, bang, dot, bigO}
+use Rattle.plaintext.specs.Reading.{readRule, ReadsText}
+use Rattle.plaintext.specs.declared.Read.the-variants.{Board}
 use Rattle.board.specs.Checks.{tableSize}
 use Rattle.job.specs.Jobs.{start}
-use Rattle.service.specs.Service.{finished, infeasible, workOf}
+use Rattle.job.specs.declared.Stage.{Stage}
+use Rattle.service.specs.Service.{Result, finished, infeasible, workOf}
 use Rattle.solver.specs.Units.{grid}
 
--- what a whole job comes to: its answer, the units done, and the board
+-- what a working call comes to: its answer, the units done, and the board
 pub record Ending : Type 0 where
   pub answer : Answer
   pub units : ℕ
   pub board : List ℕ
 
+abbrev pub endingOf : Result (List ℕ) → Ending
+endingOf r = record { answer = r .answer; units = r .state .job .units; board = r .state .board }
+
 -- one working call with more allowance than the job has units, over a table of 7s and a board of 9s
 unfoldable pub solved : ℕ → ℕ → List ℕ → Ending
-solved w h givens =
-    let r = workOf grid (start conwayRule w h) givens (replicate (tableSize w h) 7) (replicate (w * h) 9) 200 in
-    record { answer = r .answer; units = r .state .job .units; board = r .state .board }
+solved w h givens = endingOf (workOf grid (start conwayRule w h) givens (replicate (tableSize w h) 7) (replicate (w * h) 9) 200)
+
+-- width 1, height 2, free, the table filled and no row chosen yet: one such call, where layer 1 is right, and layer 2 holds n for rows 0, 0 and none for others
+unfoldable pub chosenBy : ℕ → Ending
+chosenBy n =
+    endingOf
+    (workOf
+    grid
+    (record { rule = conwayRule; width = 1; height = 2; units = 8; stage = Stage.Choosing 0 0 0 })
+    (0 ∷ 0 ∷ [])
+    (0 ∷ 65535 ∷ 0 ∷ 65535 ∷ n ∷ 65535 ∷ 65535 ∷ 65535 ∷ [])
+    (9 ∷ 9 ∷ [])
+    200)
 
 pub record Known : Type 0 where
   -- 1 by 1 free: score 0, 5 units
@@ -52,3 +67,20 @@ pub record Known : Type 0 where
   pub all-given : solved 2 2 (2 ∷ 2 ∷ 2 ∷ 2 ∷ []) ≡ record { answer = finished 0; units = 34; board = 1 ∷ 1 ∷ 1 ∷ 1 ∷ [] }
   -- 3 by 3 free: rows 3, 5, 6
   pub free3 : solved 3 3 (replicate 9 0) ≡ record { answer = finished 6; units = 195; board = 0 ∷ 1 ∷ 1 ∷ 1 ∷ 0 ∷ 1 ∷ 1 ∷ 1 ∷ 0 ∷ [] }
+  -- layer 2 is none throughout: 9, no row can be chosen after row 1; row 1 stays done and written, and the job stands before row 2
+  pub spoiled : chosenBy 65535 ≡ record { answer = refuses 9 []; units = 9; board = 0 ∷ 9 ∷ [] }
+  -- a number read from the table above 600 counts as none, and 600 doesn't
+  pub above-600 : chosenBy 601 ≡ record { answer = refuses 9 []; units = 9; board = 0 ∷ 9 ∷ [] }
+  pub up-to-600 : chosenBy 600 ≡ record { answer = finished 0; units = 10; board = 0 ∷ 0 ∷ [] }
+  -- O, LF, .OO, LF: the short row is filled with dead cells, and the cell past the board isn't written
+  pub short-row : ReadsText (bigO ∷ LF ∷ dot ∷ bigO ∷ bigO ∷ LF ∷ []) 0 (replicate 7 9) (1 ∷ 0 ∷ 0 ∷ 0 ∷ 1 ∷ 1 ∷ 9 ∷ []) (Board 3 2)
+  -- O, LF, !, O, CR, O, LF, O: a line starting with ! is a comment, and a CR in it is allowed; a last line without LF counts
+  pub a-comment : ReadsText (bigO ∷ LF ∷ bang ∷ bigO ∷ CR ∷ bigO ∷ LF ∷ bigO ∷ []) 0 (replicate 2 9) (1 ∷ 1 ∷ []) (Board 1 2)
+  -- O., CR, LF, .O, CR, LF: one CR just before LF is dropped
+  pub cr-lf : ReadsText (bigO ∷ dot ∷ CR ∷ LF ∷ dot ∷ bigO ∷ CR ∷ LF ∷ []) 0 (replicate 4 9) (1 ∷ 0 ∷ 0 ∷ 1 ∷ []) (Board 2 2)
+  -- a CR elsewhere outside a comment is refusal 8 at its place: before another CR, before a letter, at the end of the text
+  pub two-crs : readRule (bigO ∷ CR ∷ CR ∷ LF ∷ []) 0 1 ≡ refuses 8 (1 ∷ [])
+  pub cr-in-a-row : readRule (dot ∷ LF ∷ CR ∷ bigO ∷ LF ∷ []) 0 4 ≡ refuses 8 (2 ∷ [])
+  pub cr-at-the-end : readRule (dot ∷ LF ∷ bigO ∷ CR ∷ []) 0 4 ≡ refuses 8 (3 ∷ [])
+  -- O, LF, #O, LF: a line starting with # is no comment, and # is refusal 8 at its place
+  pub hash : readRule (bigO ∷ LF ∷ 35 ∷ bigO ∷ LF ∷ []) 0 4 ≡ refuses 8 (2 ∷ [])

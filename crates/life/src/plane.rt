@@ -11,7 +11,7 @@ ghost use Rattle.life.specs.Plane.{onPlane, three, around};
 ghost use Rattle.life.specs.Calls.{verdictSays, judged, stepped, ringSize};
 
 // The cell in row i - 1 and column j - 1.
-pub fn cell(w: usize, h: usize, cells: &[u8], i: usize, j: usize) -> u8
+fn cell(w: usize, h: usize, cells: &[u8], i: usize, j: usize) -> u8
     requires { ⌜ Board w h (now cells) ⌝ }
     ensures { λ r. ⌜ (r ≡ onPlane w h (now (cells .entry)) (predℤ (pos i)) (predℤ (pos j))) × (r ≤ 1) ⌝ }
 {
@@ -31,7 +31,7 @@ pub fn cell(w: usize, h: usize, cells: &[u8], i: usize, j: usize) -> u8
 }
 
 // The cells in columns c - 1, c and c + 1 of row i - 1, as three digits.
-pub fn three_at(w: usize, h: usize, cells: &[u8], i: usize, c: usize) -> usize
+fn three_at(w: usize, h: usize, cells: &[u8], i: usize, c: usize) -> usize
     requires { ⌜ Board w h (now cells) × (c ≤ w + 1) ⌝ }
     ensures { λ r. ⌜ (r ≡ three (onPlane w h (now (cells .entry)) (predℤ (pos i))) (pos c)) × (r < 8) ⌝ }
 {
@@ -41,7 +41,7 @@ pub fn three_at(w: usize, h: usize, cells: &[u8], i: usize, c: usize) -> usize
 }
 
 // The 3 by 3 pattern around the cell in row r and column c.
-pub fn pattern(w: usize, h: usize, cells: &[u8], r: usize, c: usize) -> usize
+fn pattern(w: usize, h: usize, cells: &[u8], r: usize, c: usize) -> usize
     requires { ⌜ Board w h (now cells) × (r ≤ h + 1) × (c ≤ w + 1) ⌝ }
     ensures { λ p. ⌜ (p ≡ around (onPlane w h (now (cells .entry))) (pos r) (pos c)) × (p < 512) ⌝ }
 {

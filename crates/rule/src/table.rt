@@ -531,10 +531,13 @@ pub fn conway() -> [u8; 512]
     NEXT
 }
 
-// A rule's table, to be kept and lent; a barred rule has one too.
+// A rule's table, to be kept and lent: the constants for Conway's. A barred rule has one too.
 pub fn of(rule: Rule) -> [u8; 512]
     ensures { λ r. ⌜ Holds (nextUnder rule) r ⌝ }
 {
+    if rule.births == 8 && rule.survivals == 12 {
+        return conway();
+    }
     let mut table = [0; 512];
     fill(rule, &mut table);
     table

@@ -71,10 +71,12 @@ window-lt w row j = mod-lt (4 * row / 2 ^ (w + 1 - j)) (lit< tt)
 pub column-lt : (w a b t j : ℕ) → columnOf w a b t j < 1024
 column-lt w a b t j = omega (arith, window-lt w a j, window-lt w b j, window-lt w t j)
 
+-- the nine digits, and the one before them
 split : (d x y z : ℕ) → d < 2 → x < 8 → y < 8 → z < 8
     → ((512 * d + 64 * x + 8 * y + z) % 512 ≡ 64 * x + 8 * y + z) × ((512 * d + 64 * x + 8 * y + z) / 512 ≡ d)
 split d x y z p q r s = (omega arith, omega arith)
 
+-- its test is that of the cell
 pub passes-is : (next : ℕ → ℕ) (w a b c t j : ℕ) → a < 2 ^ w → b < 2 ^ w → c < 2 ^ w → t < 2 ^ w → j ≤ w + 1
     → passes next w (columnOf w a b t j) c j ≡ becomes next w a b c t j
 passes-is next w a b c t j la lb lc lt lj =

@@ -19,7 +19,7 @@ use Rattle.score_table.specs.declared.Picked.{Picked}
 unfoldable pub gridFits : ℕ → ℕ → List ℕ → Bool
 gridFits w h givens = leb w maxWidth && leb h maxHeight && eqb (length givens) (w * h)
 
--- what each call asks first: such givens, and a number of an entry, at most the limit and a row's worth, fits 16 bits and can't be taken for none
+-- what each call asks first: such givens, and an entry's number, at most the limit and a row's worth, fits 16 bits and can't be taken for none
 abbrev pub callFits : Want → ℕ → ℕ → List ℕ → Bool
 callFits want w h givens = gridFits w h givens && ltb (want .limit + w) absent
 
@@ -33,14 +33,14 @@ unfoldable pub fillFits : Want → ℕ → ℕ → ℕ → ℕ → ℕ → ℕ �
 fillFits want w h k source target j givens n =
     callFits want w h givens && ltb k h && ltb j (4 ^ w) && layerFits w n target && cond (eqb k 0) true (layerFits w n source)
 
--- the table afterwards: the entry is filled; an entry that there isn't, or memory that doesn't fit, leaves the table as it was
+-- the table afterwards: the entry is filled; an entry that there isn't, memory or a limit that doesn't fit, leaves the table as it was
 unfoldable pub fillWrites : Want → (ℕ → ℕ) → ℕ → ℕ → ℕ → ℕ → ℕ → ℕ → List ℕ → List ℕ → List ℕ
 fillWrites want next w h k source target j givens table =
     cond (fillFits want w h k source target j givens (length table)) (fillEntry (kindFor want next w h givens) k source target j table) table
 
 -- ---- choosing
 -- the choice of the row with r rows above it, the last two of them `above` and `last`, by its layer, which starts at `source`; a row that there
--- isn't, or memory that doesn't fit, gives nothing
+-- isn't, memory or a limit that doesn't fit, gives nothing
 unfoldable pub rowPicked : Want → (ℕ → ℕ) → ℕ → ℕ → ℕ → ℕ → ℕ → ℕ → List ℕ → List ℕ → Choice ℕ
 rowPicked want next w h r source above last givens table =
     cond (callFits want w h givens && ltb r h && layerFits w (length table) source && ltb above (2 ^ w) && ltb last (2 ^ w))

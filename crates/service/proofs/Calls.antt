@@ -1,18 +1,18 @@
 -- A working call unit by unit, and what calls that are turned away and resumptions answer.
 -- Assumes nothing.
 use mathlib.Core.Path.{_≡_, refl, sym, _∙_, ap}
-use mathlib.Core.Bool.{Bool, true, false, true≢false}
+use mathlib.Core.Bool.{Bool, true, false}
 use mathlib.Core.List.{List, []}
 use Prim.Native.Nat.{ℕ, zero, suc}
 use native.Mathlib.Omega.{arith}
-use Rattle.board.specs.Answers.{Answer, gives, refuses, passed, _then_, refuseUnless}
+use Rattle.board.specs.Answers.{Answer, gives, refuses, _then_, refuseUnless}
 use Rattle.board.proofs.Answers.{refuses-none, then-gives, unless-gives}
 use Rattle.job.specs.Jobs.{jobFits, checkpointFits, checkpointSays, jobOf, pauseRule, resumeRule}
 use Rattle.job.specs.declared.Stage.{Stage}
 use Rattle.job.specs.declared.Job.{Job}
 use Rattle.job.specs.declared.Checkpoint.{Checkpoint}
 use Rattle.job.proofs.Fits.{pausable, paused-numbers, job-back}
-use Rattle.service.specs.Service.{stageSays, State, next, spoiled, Service, Result, worksOn, workCheck}
+use Rattle.service.specs.Service.{stageSays, State, next, spoiled, Service, worksOn, workCheck}
 use Rattle.service.specs.Demand.{afterResume, WorkAnswers, ResumeAnswers}
 use Rattle.service.specs.Laws.{Checked, ChecksSound}
 

@@ -2,7 +2,7 @@
 -- working call is turned away.
 -- Assumes nothing.
 use mathlib.Core.Path.{_≡_, refl, sym, _∙_, ap}
-use mathlib.Core.List.{List, []}
+use mathlib.Core.List.{List}
 use mathlib.Core.Logic.{⊎-elim}
 use Prim.Native.Nat.{ℕ, _+_, _≤_, _<_, min}
 use native.Mathlib.Omega.{arith}
@@ -13,7 +13,7 @@ use Rattle.elimination.proofs.Numbers.{lt-or-ge}
 use Rattle.elimination.proofs.Machine.{advance-zero, after-units}
 use Rattle.job.proofs.Fits.{pausable}
 use Rattle.service.specs.Service.{State, Service, infeasible}
-use Rattle.service.specs.Demand.{Call, run, Each, Fair, summed, Aim, Served, Outcome, solved, unsolvable, Demand}
+use Rattle.service.specs.Demand.{Call, run, Each, Fair, summed, Aim, Served, solved, unsolvable, Demand}
 use Rattle.service.specs.Laws.{Checked, Course, Comes, toBoard, toNone, Lawful, MeetsDemand}
 use Rattle.service.proofs.Lists.{Reached, reached-fits, reached-units, listed, idle}
 

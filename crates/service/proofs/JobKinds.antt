@@ -81,7 +81,7 @@ module _ (Given : Type 0) (check : Job → Given → List ℕ → List ℕ → A
   J = K .setup
 
   abbrev F : Follows (serviceOf Given check unit) given (machine (K .setup))
-  F = follows Given check unit given (K .setup) (L .laws) (K .Of) (continues (K .setup) (K .shape) (K .Of) (L .numbered)) (L .units)
+  F = follows Given check unit given (K .setup) (K .Of) (continues (K .setup) (K .shape) (K .Of) (L .numbered)) (L .units)
 
   abbrev first : Run
   first = opened (K .setup .kind) (s .table) (s .board)
@@ -122,7 +122,7 @@ module _ (Given : Type 0) (check : Job → Given → List ℕ → List ℕ → A
   -- ---- over memory that the checks take, the job comes to its end
   completes : K .shape .entries ≤ length (s .table) → Completion J (L .course) (s .table) (s .board)
   completes room =
-      let P = orderly-sound (J .kind) (J .height) (K .shape .entries) (K .shape .boardLength) (J .plan) (L .course) (L .orderly) (L .scheduled) (L .wide) in
+      let P = orderly-sound (J .kind) (J .height) (K .shape .entries) (K .shape .boardLength) (J .plan) (L .course) (L .orderly) (L .scheduled) (omega (arith, L .length-board)) (L .wide) in
       job-completes J (L .course) (L .laws) (L .high) (L .wide) (P .0) (s .table) (P .1 (s .table) room) (s .board)
 
   abbrev rows : List ℕ

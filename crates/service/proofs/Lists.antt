@@ -1,9 +1,9 @@
 -- A list of calls does the machine's units, and each call answers as it has to; over memory that the checks turn away nothing happens.
 -- Assumes nothing.
 use mathlib.Core.Path.{_≡_, refl, sym, _∙_, ap, ap₂, subst}
-use mathlib.Core.Bool.{Bool, true, false}
+use mathlib.Core.Bool.{true, false}
 use mathlib.Core.List.{List, [], _∷_}
-use Prim.Native.Nat.{ℕ, zero, suc, _+_, _≤_, min}
+use Prim.Native.Nat.{ℕ, zero, suc, _+_, min}
 use native.Mathlib.Nat.{add-zero}
 use native.Mathlib.Omega.{arith}
 use borrow.Author.Tests.{leb-false, lt-leb}
@@ -13,7 +13,6 @@ use Rattle.board.proofs.Answers.{refuses-none}
 use Rattle.elimination.specs.Machine.{Machine, advance}
 use Rattle.elimination.proofs.Machine.{advance-suc, after-units}
 use Rattle.job.specs.Jobs.{jobFits}
-use Rattle.job.specs.declared.Job.{Job}
 use Rattle.job.proofs.Fits.{pausable}
 use Rattle.service.specs.Service.{stageSays, State, Step, next, spoiled, Service, Result, onStep, worksOn, workBy, workOf, workCheck}
 use Rattle.service.specs.Demand.{Call, work, pause, resume, afterWork, afterCall, run, Each, Fair, counted, allowed, summed, WorkAnswers, Answers, Aim}

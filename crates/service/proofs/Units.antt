@@ -1,28 +1,26 @@
 -- A job's units by its setup are the units of row elimination's machine: once for any kind of job.
 -- Assumes nothing.
-use mathlib.Core.Path.{_≡_, refl, sym, _∙_, ap, ap₂, subst}
+use mathlib.Core.Path.{_≡_, refl, sym, _∙_, ap, subst}
 use mathlib.Core.Bool.{Bool, true, false, cond, true≢false}
 use mathlib.Core.List.{List}
-use Prim.Native.Nat.{ℕ, zero, suc, _+_, _-_, _<_}
-use native.Mathlib.Omega.{arith}
+use Prim.Native.Nat.{ℕ, zero, suc, _-_}
 use lib.Dec.{ltb}
 use Rattle.board.specs.Answers.{Answer}
-use Rattle.elimination.specs.Candidates.{Choice, nothing, chosen, Comparison, Found, noneFound, bestFound}
-use Rattle.elimination.specs.Endings.{Laws}
-use Rattle.elimination.specs.Kind.{Kind, choose, offer}
+use Rattle.elimination.specs.Candidates.{Choice, nothing, chosen}
+use Rattle.elimination.specs.Kind.{choose}
 use Rattle.elimination.specs.Table.{reads, fillEntry}
 use Rattle.elimination.specs.Task.{Task, fill, row}
 use Rattle.elimination.specs.Shape.{Numbers, afterEntry, afterRow, afterNone}
-use Rattle.elimination.specs.Job.{Mark, running, finished, infeasible, endMark, Setup, takeRow, act, actIf, unit, machine}
+use Rattle.elimination.specs.Job.{Mark, running, finished, infeasible, endMark, Setup, takeRow, act, unit, machine}
 use Rattle.elimination.specs.Job as Elimination
-use Rattle.elimination.proofs.Candidates.{scan-finds-best}
-use Rattle.elimination.proofs.Kind.{choose-scan}
+use Rattle.elimination.proofs.Candidates.{RowBelow}
+use Rattle.elimination.proofs.Kind.{choose-below}
 use Rattle.job.specs.Jobs.{aboveOf, lastOf, liveOf, markOf, numbersOf, jobOf, jobFits, checkpointFits, numbersWith, jobWith}
 use Rattle.job.specs.declared.Stage.{Stage}
 use Rattle.job.specs.declared.Job.{Job}
 use Rattle.job.specs.declared.Checkpoint.{Checkpoint}
 use Rattle.job.proofs.Checkpoints.{numbers-of-job, resumed-fits}
-use Rattle.service.specs.Service.{unfinished, stageSays, State, Step, next, spoiled, Service}
+use Rattle.service.specs.Service.{unfinished, stageSays, State, Step, next, spoiled}
 use Rattle.service.specs.Laws.{Follows}
 use Rattle.service.specs.Units.{here, rowStep, taskStep, markStep, unitBy, Continues}
 
@@ -53,21 +51,7 @@ running-mark (Stage.Choosing above last live) e = refl
 running-mark (Stage.Finished above last score) e = absurd (true≢false e)
 running-mark Stage.Infeasible e = absurd (true≢false e)
 
--- ---- a row that is chosen is one
-abbrev RowBelow : ℕ → Choice ℕ → Type 0
-RowBelow m nothing = Unit {0}
-RowBelow m (chosen c n) = c < m
-
-module _ (J : Setup ℕ (List ℕ)) (L : Laws (J .kind) (J .height)) (Of : Job → Type 0) (C : Continues J Of) where
-  row-below : (k a b : ℕ) (read : ℕ → ℕ) → RowBelow (J .kind .codes) (choose (J .kind) k a b read)
-  row-below k a b read =
-      subst (RowBelow (J .kind .codes)) (sym (choose-scan (J .kind) k a b read))
-      (go (scan-finds-best (J .kind .comparison) (L .ordered) (L .merge-tied) (offer (J .kind) k a b read) (J .kind .codes)))
-    where
-      go : {o : Choice ℕ} → Found (J .kind .comparison) (offer (J .kind) k a b read) (J .kind .codes) o → RowBelow (J .kind .codes) o
-      go (noneFound f) = tt
-      go (bestFound r y B) = B .inside
-
+module _ (J : Setup ℕ (List ℕ)) (Of : Job → Type 0) (C : Continues J Of) where
   -- a job of the setup that fits
   pub record Here (s : State (List ℕ)) : Type 0 where
     pub of : Of (s .job)
@@ -109,7 +93,7 @@ module _ (J : Setup ℕ (List ℕ)) (L : Laws (J .kind) (J .height)) (Of : Job �
       let a = aboveOf (s .job .stage) in
       let b = lastOf (s .job .stage) in
       let read = reads (J .kind) (s .table) source b in
-      row-law s H m r source p (choose (J .kind) (J .height - suc r) a b read) (row-below (J .height - suc r) a b read) e
+      row-law s H m r source p (choose (J .kind) (J .height - suc r) a b read) (choose-below (J .kind) (J .height - suc r) a b read) e
 
   pub unit-law : (s : State (List ℕ)) → Here s → Steps (unitBy J s) s
   unfolding unitBy unit
@@ -122,15 +106,15 @@ module _ (J : Setup ℕ (List ℕ)) (L : Laws (J .kind) (J .height)) (Of : Job �
 
 -- so a job follows the machine, where its service's units are its setup's: once for any kind of job
 abbrev pub follows : (Given : Type 0) (check : Job → Given → List ℕ → List ℕ → Answer) (unitOf : Given → State (List ℕ) → Step (List ℕ)) (given : Given)
-    (J : Setup ℕ (List ℕ)) (L : Laws (J .kind) (J .height)) (Of : Job → Type 0) (C : Continues J Of)
+    (J : Setup ℕ (List ℕ)) (Of : Job → Type 0) (C : Continues J Of)
     → ((s : State (List ℕ)) → Of (s .job) → unitOf given s ≡ unitBy J s)
     → Follows (record { Given = Given; Table = List ℕ; check = check; unit = unitOf }) given (machine J)
-follows Given check unitOf given J L Of C is = record {
+follows Given check unitOf given J Of C is = record {
   view = view;
-  Here = Here J L Of C;
+  Here = Here J Of C;
   fits = λ s H. H .taken;
   units = λ s. refl;
   running = λ s e. running-mark (s .job .stage) e;
-  moves = λ s s′ H e. subst (λ (o : Step (List ℕ)). Steps J L Of C o s) (sym (is s (H .of)) ∙ e) (unit-law J L Of C s H);
-  stands = λ s H e. subst (λ (o : Step (List ℕ)). Steps J L Of C o s) (sym (is s (H .of)) ∙ e) (unit-law J L Of C s H);
+  moves = λ s s′ H e. subst (λ (o : Step (List ℕ)). Steps J Of C o s) (sym (is s (H .of)) ∙ e) (unit-law J Of C s H);
+  stands = λ s H e. subst (λ (o : Step (List ℕ)). Steps J Of C o s) (sym (is s (H .of)) ∙ e) (unit-law J Of C s H);
 }

@@ -9,9 +9,9 @@ use Rattle.board.specs.Answers.{Answer, passed}
 use Rattle.elimination.specs.Endings.{Ending, NoEnding, total, Laws}
 use Rattle.elimination.specs.Endings as Endings
 use Rattle.elimination.specs.Job.{Setup}
-use Rattle.elimination.specs.Plan.{Schedule}
+use Rattle.elimination.specs.Plan.{Schedule, Scheduled}
 use Rattle.elimination.specs.Completion.{writeRows}
-use Rattle.elimination.specs.Places.{Filled, Orderly, Scheduled}
+use Rattle.elimination.specs.Places.{Filled, Orderly}
 use Rattle.elimination.specs.Shape.{Shape, rowsChosen}
 use Rattle.elimination.specs.Progress.{RowWriter, Written, Carried}
 use Rattle.job.specs.Jobs.{jobFits, markOf, liveOf, aboveOf, lastOf}
@@ -70,7 +70,7 @@ module _ (Given : Type 0) (check : Job → Given → List ℕ → List ℕ → A
     pub wide : 0 < K .setup .kind .codes
     pub orderly : Orderly (K .setup .kind .codes) (K .setup .height) (K .shape .entries) (K .shape .boardLength) (K .setup .plan)
     pub course : Schedule
-    pub scheduled : Scheduled (K .setup .height) (K .shape .boardLength) (K .setup .plan) course
+    pub scheduled : Scheduled (K .setup .height) (K .setup .plan) course
     pub length-board : course .start (K .setup .height) ≡ K .shape .boardLength
     pub length-none : suc (course .work 0) ≡ K .shape .noneLength
     pub shorter : K .shape .noneLength ≤ K .shape .boardLength

@@ -8,7 +8,7 @@ use Rattle.board.specs.Answers.{Answer, gives, refuses, passed}
 use Rattle.elimination.specs.Machine.{Machine, advance, Lasts}
 use Rattle.job.specs.Jobs.{jobFits}
 use Rattle.job.specs.declared.Job.{Job}
-use Rattle.service.specs.Service.{unfinished, infeasible, stageSays, State, Step, next, spoiled, Service}
+use Rattle.service.specs.Service.{unfinished, infeasible, stageSays, State, next, spoiled, Service}
 use Rattle.service.specs.Demand.{Aim, Demand}
 
 -- nothing, or a refusal other than 9

@@ -1,8 +1,7 @@
 -- What the checks of a working call say: nothing, or a refusal other than 9; and what they have shown where they pass.
 -- Assumes nothing.
 use mathlib.Core.Path.{_≡_, refl}
-use mathlib.Core.Bool.{Bool, true, false}
-use mathlib.Core.List.{List, []}
+use mathlib.Core.List.{List}
 use mathlib.Core.Option.{Option, none, some}
 use Prim.Native.Nat.{ℕ, _*_, _≤_}
 use native.Mathlib.Omega.{arith}
@@ -10,9 +9,9 @@ use borrow.Author.Tests.{leb-true, eqb-true}
 use lib.Dec.{leb, eqb}
 use lib.ListN.{length}
 use Rattle.board.specs.Search.{firstNot}
-use Rattle.board.specs.Answers.{Answer, gives, refuses, _then_, refuseUnless, refuseAt}
+use Rattle.board.specs.Answers.{Answer, gives, refuses, _then_, refuseAt}
 use Rattle.board.specs.Checks.{givensCheck, lengthCheck, bytesCheck, atMost, tableSize, tableCheck}
-use Rattle.board.proofs.Answers.{refuses-none, then-gives, unless-gives}
+use Rattle.board.proofs.Answers.{then-gives, unless-gives}
 use Rattle.job.specs.Jobs.{pauseRule, readCheck}
 use Rattle.job.proofs.ReadChecks.{read-marks}
 use Rattle.service.specs.Service.{workCheck}

@@ -4,7 +4,6 @@ pub mod RowLaws
 pub mod Endings
 pub mod Optimum
 pub mod Theorems
-pub mod TableLaws
 pub mod Agreement
 pub mod Machine
 pub mod UnitLaws

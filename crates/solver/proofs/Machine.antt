@@ -1,14 +1,12 @@
 -- A grid's job is a machine of row elimination: its numbers are its shape's, so they go on fitting, and its units are the machine's.
 -- Assumes nothing.
-use mathlib.Core.Path.{_≡_, refl, sym, _∙_, ap, ap₂}
-use mathlib.Core.Bool.{true}
+use mathlib.Core.Path.{_≡_, refl, _∙_, ap₂}
 use mathlib.Core.List.{List}
-use Prim.Native.Nat.{ℕ, suc, _+_, _*_, _-_, _≤_}
+use Prim.Native.Nat.{ℕ, suc, _*_, _-_}
 use native.Mathlib.Omega.{arith}
 use Rattle.elimination.specs.Job as Elimination
 use Rattle.rule.specs.declared.Rule.{Rule}
-use Rattle.job.specs.Jobs.{shapeOf, jobFits}
-use Rattle.job.specs.declared.Job.{Job}
+use Rattle.job.specs.Jobs.{shapeOf}
 use Rattle.job.proofs.Shapes.{shape-lawful}
 use Rattle.job.proofs.Fits.{Frame}
 use Rattle.score_table.proofs.Marks.{row-worth-le}
@@ -19,7 +17,6 @@ use Rattle.service.proofs.Units as Shared
 use Rattle.solver.specs.Working.{lentCheck}
 use Rattle.solver.specs.Units.{State, setupOf, unitOf, grid}
 use Rattle.solver.specs.Demand.{Of}
-use Rattle.solver.proofs.Endings.{kind-laws}
 
 module _ {rule : Rule} {w h : ℕ} (z : Frame rule w h) (g : List ℕ) where
   pub numbered : Numbered (setupOf rule w h g) (shapeOf w h) (Of rule w h)
@@ -40,5 +37,5 @@ module _ {rule : Rule} {w h : ℕ} (z : Frame rule w h) (g : List ℕ) where
 -- ---- and the job follows the machine
 abbrev pub follows : {rule : Rule} {w h : ℕ} → Frame rule w h → (g : List ℕ) → Follows grid g (Elimination.machine (setupOf rule w h g))
 follows {rule} {w} {h} z g =
-    Shared.follows (List ℕ) lentCheck unitOf g (setupOf rule w h g) (kind-laws rule w h g (z .size)) (Of rule w h)
+    Shared.follows (List ℕ) lentCheck unitOf g (setupOf rule w h g) (Of rule w h)
     (continues (setupOf rule w h g) (shapeOf w h) (Of rule w h) (numbered z g)) (unit-same z g)

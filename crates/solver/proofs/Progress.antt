@@ -1,18 +1,20 @@
 -- What is done by now, in the terms of a grid's table and board, from what the units of any plan leave.
 -- Assumes nothing.
-use mathlib.Core.Path.{_≡_, refl, sym, _∙_, ap₂}
+use mathlib.Core.Path.{_≡_, sym, _∙_, ap₂}
 use mathlib.Core.Bool.{true, cond}
 use mathlib.Core.List.{List}
-use Prim.Native.Nat.{ℕ, zero, suc, _+_, _*_, _-_, _^_, _≤_, _<_, min}
+use Prim.Native.Nat.{ℕ, zero, suc, _+_, _*_, _-_, _/_, _%_, _^_, _≤_, _<_, min}
 use native.Mathlib.Omega.{arith}
 use lib.Dec.{eqb}
 use Rattle.board.specs.Checks.{tableSize}
 use Rattle.elimination.specs.FillThenChoose.{plan}
+use Rattle.elimination.specs.Table.{rightAt}
 use Rattle.elimination.specs.Places as Places
 use Rattle.elimination.specs.Shape.{rowsChosen}
 use Rattle.elimination.specs.Progress.{Written, rowAt, worthSoFar, Carried}
 use Rattle.elimination.proofs.Shape.{Units, runs, ends, fails}
 use Rattle.elimination.proofs.FillThenChoose.{stands, writes-not}
+use Rattle.elimination.proofs.Table.{right-at-entry}
 use Rattle.elimination.proofs.Progress.{worth-none, worth-more}
 use Rattle.rule.specs.declared.Rule.{Rule}
 use Rattle.board.specs.Boards.{Board}
@@ -22,15 +24,14 @@ use Rattle.service.specs.JobKinds.{rowsIn}
 use Rattle.job.specs.Jobs.{shapeOf, aboveOf, lastOf, liveOf, markOf, numbersOf, jobFits}
 use Rattle.job.proofs.Shapes.{none-long}
 use Rattle.job.proofs.Fits.{Frame, numbers-at, fits-numbers}
-use Rattle.board.proofs.Powers.{table-four}
+use Rattle.board.proofs.Powers.{four-two, table-four}
 use Rattle.score_table.proofs.Places.{place-same}
 use Rattle.solver.specs.Grid.{score, Optimal}
 use Rattle.solver.specs.Units.{State, setupOf}
-use Rattle.solver.specs.Demand.{Filled, Progress, Of, gridKind}
+use Rattle.solver.specs.Demand.{rightUnit, Filled, Progress, Of, gridKind}
 use Rattle.solver.proofs.RowLaws.{row-inside, row-none, score-more, score-none}
 use Rattle.solver.proofs.Optimum.{readRow}
 use Rattle.solver.proofs.Endings.{kind}
-use Rattle.solver.proofs.TableLaws.{right-same}
 
 -- the units done are the entries written and the rows chosen
 units-split : (w h u m : ℕ) → Units (shapeOf w h) u m → u ≡ min u (tableSize w h) + rowsChosen (shapeOf w h) u m + cond (eqb m 2) 1 0
@@ -39,7 +40,12 @@ units-split w h u m (runs l) = omega arith
 units-split w h u m (ends e) = omega arith
 units-split w h u m (fails e) = omega (arith, none-long w h)
 
--- the table
+-- the table: its right numbers are row elimination's
+module _ (rule : Rule) (w h : ℕ) (g : List ℕ) where
+  right-same : (u : ℕ) → rightUnit rule w h g u ≡ rightAt (kind rule w h g) (u / (2 ^ w * 2 ^ w)) (u % (2 ^ w * 2 ^ w))
+  unfolding rightUnit
+  right-same u = rw (four-two w) (sym (right-at-entry (kind rule w h g) (u / (2 ^ w * 2 ^ w)) (u % (2 ^ w * 2 ^ w))))
+
 table-filled : (rule : Rule) (w h : ℕ) (g : List ℕ) (m : ℕ) (t₀ t : List ℕ) → Places.Filled (kind rule w h g) (plan h (2 ^ w * 2 ^ w)) m t₀ t
     → Filled rule w h g (min m (tableSize w h)) t₀ t
 table-filled rule w h g m t₀ t F = record {

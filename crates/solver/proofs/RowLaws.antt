@@ -7,15 +7,13 @@ use Prim.Native.Nat.{ℕ, zero, suc, _+_, _*_, _-_, _/_, _%_, _^_, _≤_, _<_}
 use native.Mathlib.Nat.{pow-suc, mul-comm, div-add-mod', mod-lt, div-lt-iff-lt-mul}
 use native.Mathlib.Numerals.{add-one}
 use native.Mathlib.Omega.{arith}
-use borrow.Author.Tests.{eq-eqb, ne-eqb, eqb-true, eqb-false}
-use lib.Dec.{eqb}
 use lib.IntN.{ℤ, pos}
 use lib.ListN.{getD}
 use lib.Pow.{pow-pos}
 use lib.Seq.{ext-getD}
 use Rattle.board.specs.Boards.{among, Board}
 use Rattle.board.specs.Sums.{total}
-use Rattle.board.proofs.Sums.{total-none, total-same, total-le, total-add}
+use Rattle.board.proofs.Sums.{total-none, total-same, total-add}
 use Rattle.board.proofs.Tests.{among-yes, among-past}
 use Rattle.life.specs.Plane.{onPlane}
 use Rattle.life.specs.Rows.{rowNumber, rowOf, digitIn, cellOf}

@@ -20,7 +20,6 @@ use Rattle.score_table.proofs.Marks.{row-worth-le}
 use Rattle.job.specs.Jobs.{shapeOf, aboveOf, lastOf, markOf, liveOf, jobFits, taskDue, jobWith, afterUnit}
 use Rattle.job.specs.declared.Job.{Job}
 use Rattle.job.specs.declared.Chosen.{Chosen}
-use Rattle.job.proofs.Fits.{fits-frame}
 use Rattle.job.proofs.Next.{due-none, after-entry, after-row, after-none}
 use Rattle.service.specs.Service.{next, spoiled, worksOn, stageSays}
 use Rattle.service.specs.Units.{here, rowStep, markStep, unitBy}
@@ -30,7 +29,7 @@ use Rattle.solver.specs.Units.{State, setupOf, unitOf, grid}
 use Rattle.solver.specs.Inner.{lentState, stepOf, Lent, Chooses, Moves}
 use Rattle.solver.specs.declared.choosing.Stepped.{Stepped}
 use Rattle.elimination.proofs.Candidates.{RowBelow}
-use Rattle.solver.proofs.TableLaws.{choice-lt}
+use Rattle.elimination.proofs.Kind.{choose-below}
 use Rattle.solver.proofs.UnitLaws.{unit-fits, unit-lent, row-in}
 
 next-not-ended : {j : Job} {A : Type 0} → Stepped.Next j ≡ Stepped.Ended → A
@@ -105,7 +104,7 @@ module _ (j : Job) (r source : ℕ) (g t β : List ℕ) (C : Chooses j r source 
   moves-row c n f j′ q =
       let live = liveOf (j .stage) in
       let l : c < 2 ^ j .width =
-      subst (RowBelow (2 ^ j .width)) f (choice-lt (j .rule) (fits-frame j (C .lent .taken) .size) g (j .height - suc r) (aboveOf (j .stage)) (lastOf (j .stage))
+      subst (RowBelow (2 ^ j .width)) f (choose-below (kindOf (nextUnder (j .rule)) (j .width) (j .height) g) (j .height - suc r) (aboveOf (j .stage)) (lastOf (j .stage))
       (reads (kindOf (nextUnder (j .rule)) (j .width) (j .height) g) t source (lastOf (j .stage)))) in
       let d : j .height - suc (j .height - suc r) ≡ r = omega (arith, row-in C .inside) in
       let same : j′ ≡ jobWith j (afterRow (j .height) r c (rowWorth (j .width) g ((j .height - suc (j .height - suc r)) * j .width) c + live) (here j)) =

@@ -2,7 +2,7 @@
 -- Assumes nothing.
 use mathlib.Core.Path.{_≡_, refl, sym, _∙_, ap, subst}
 use mathlib.Core.List.{List}
-use Prim.Native.Nat.{ℕ, _+_, _*_, _-_, _^_, _<_}
+use Prim.Native.Nat.{ℕ, _+_, _*_, _^_, _<_}
 use native.Mathlib.Nat.{mul-le-mul, mul-comm}
 use native.Mathlib.Omega.{arith}
 use lib.Pow.{pow-pos}
@@ -46,7 +46,7 @@ module _ {rule : Rule} {w h : ℕ} (z : Frame rule w h) (g : List ℕ) where
     wide = pow-pos w;
     orderly = rw (table-four w h, ← long-is w h) (orderly (2 ^ w) h some);
     course = schedule h (2 ^ w * 2 ^ w);
-    scheduled = rw (← long-is w h) (scheduled h (2 ^ w * 2 ^ w));
+    scheduled = scheduled h (2 ^ w * 2 ^ w);
     length-board = schedule-lengths h (2 ^ w * 2 ^ w) (z .size .some-row) .board ∙ ap (λ (q : ℕ). h * (q + 1)) (sym (four-two w));
     length-none = schedule-lengths h (2 ^ w * 2 ^ w) (z .size .some-row) .none ∙ ap (λ (q : ℕ). h * q + 1) (sym (four-two w));
     shorter = omega (arith, z .size .some-row);

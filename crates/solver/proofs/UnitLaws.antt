@@ -1,21 +1,20 @@
 -- A unit of a job that fits leaves a job that fits, of the same width and height, and memory of the same lengths: what a working call's checks
 -- have shown holds before each of its units.
 -- Assumes nothing.
-use mathlib.Core.Path.{_≡_, refl, _∙_, ap, subst}
-use mathlib.Core.Bool.{Bool, true, false, cond}
+use mathlib.Core.Path.{_≡_, refl, _∙_, subst}
+use mathlib.Core.Bool.{true}
 use mathlib.Core.List.{List}
 use Prim.Native.Nat.{ℕ, zero, suc, _+_, _*_, _-_, _^_, _≤_, _<_}
 use native.Mathlib.Omega.{arith}
 use lib.ListN.{length, length-set}
 use Rattle.elimination.specs.Candidates.{Choice, nothing, chosen}
 use Rattle.rule.specs.declared.Rule.{Rule}
-use Rattle.board.specs.Checks.{tableSize}
-use Rattle.job.specs.Jobs.{shapeOf, aboveOf, lastOf, liveOf, markOf, jobFits}
+use Rattle.job.specs.Jobs.{shapeOf, aboveOf, lastOf, markOf, jobFits}
 use Rattle.rule.specs.Rule.{nextUnder}
 use Rattle.elimination.specs.Kind.{choose}
 use Rattle.elimination.specs.Table.{reads, fillEntry}
 use Rattle.score_table.specs.ScoreTable.{kindOf}
-use Rattle.elimination.specs.Task.{Task, fill, row, isFill}
+use Rattle.elimination.specs.Task.{Task, fill, row}
 use Rattle.elimination.specs.FillThenChoose.{plan}
 use Rattle.service.specs.Units.{rowStep, taskStep, markStep, unitBy}
 use Rattle.service.specs.Service.{next, spoiled}

@@ -1,11 +1,10 @@
 -- `job::Job::after` meets its contract, by the job's task.
 -- Assumes nothing.
-use mathlib.Core.Path.{_≡_, sym, _∙_, ap}
-use mathlib.Core.Option.{some}
+use mathlib.Core.Path.{sym, _∙_, ap}
 use native.Mathlib.Omega.{arith}
 use borrow.Author.Needs.{needs}
-use Rattle.elimination.specs.Task.{fill, row}
-use Rattle.job.specs.Jobs.{taskDue, taskOf, afterUnit}
+use Rattle.elimination.specs.Task.{row}
+use Rattle.job.specs.Jobs.{taskOf, afterUnit}
 use Rattle.job.proofs.Shapes.{row-at}
 use Rattle.job.proofs.Next.{due-at}
 use Rattle.job.proofs.Job.after.Statement.{statement}

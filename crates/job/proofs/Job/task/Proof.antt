@@ -5,7 +5,7 @@ use mathlib.Core.Option.{some}
 use Prim.Native.Nat.{ℕ, _+_, _≤_, _<_}
 use native.Mathlib.Omega.{arith}
 use borrow.Author.Needs.{needs}
-use borrow.Author.Tests.{lt-ltb, le-ltb, le-leb, lt-leb, ne-eqb}
+use borrow.Author.Tests.{le-ltb, le-leb, lt-leb, ne-eqb}
 use Rattle.board.specs.Checks.{tableSize}
 use Rattle.job.specs.Jobs.{boardLength, markOf, shapeOf, taskDue}
 use Rattle.job.proofs.Shapes.{board-long}

@@ -1,6 +1,6 @@
 -- `solver::working::unit` meets its contract: the job's task is done, and a job without one stays.
 -- Assumes nothing.
-use mathlib.Core.Path.{_≡_, sym, _∙_, ap}
+use mathlib.Core.Path.{sym, _∙_, ap}
 use borrow.Author.Needs.{needs}
 use Rattle.job.specs.Jobs.{taskOf}
 use Rattle.job.proofs.Next.{due-at}

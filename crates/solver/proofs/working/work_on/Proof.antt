@@ -1,7 +1,7 @@
 -- `solver::working::work_on` meets its contract. The loop's invariant: the units that are left, from the state now, come to what all come to from the
 -- start; and the checks would still pass. The measure: the allowance left.
 -- Assumes nothing.
-use mathlib.Core.Path.{_≡_, refl, sym, _∙_}
+use mathlib.Core.Path.{_≡_, refl, _∙_}
 use mathlib.Core.Logic.{⊎-elim}
 use lib.ListN.{length}
 use Rattle.rule.specs.Rule.{Holds, nextUnder}
