@@ -15,8 +15,8 @@ use Rattle.elimination.specs.Endings.{Ending, NoEnding, total, Solved, n
 use Rattle.elimination.specs.Task.{afterTasks}
 use Rattle.elimination.specs.Machine.{ComesTo}
 use Rattle.elimination.specs.Job.{running, finished, State, Setup, ended, opened, takeRow, unit, machine}
-use Rattle.elimination.specs.Plan.{Schedule, afterWork, SoundPlan}
-use Rattle.elimination.specs.Completion.{aboveOf, lastOf, addRows, writeRows, afterRows, boardRows, boardWorth, noneEnd, Completion, toBoard, toNone, JobCompletes}
+use Rattle.elimination.specs.Plan.{Schedule, afterFilling, SoundPlan}
+use Rattle.elimination.specs.Completion.{rowAbove, rowLast, addRows, writeRows, afterRows, boardRows, boardWorth, noneEnd, Completion, toBoard, toNone, JobCompletes}
 use Rattle.elimination.proofs.Endings.{ending-length, elimination-solves}
 use Rattle.elimination.proofs.Table.{choose-right}
 use Rattle.elimination.proofs.Machine.{Runs, here, runs-come, runs-more, runs-add}
@@ -104,10 +104,10 @@ module _ {X B : Type 0} (J : Setup X B) (S : Schedule) (P : SoundPlan (J .kind) 
         → unit J (inFill (S .work r) r a b x t β) ≡ takeRow J r (inFill (S .work r) r a b x t β) (choose G (h - suc r) a b (rightEntry G (h - suc r) b))
     choose-step y hb =
         unit-row J (inFill (S .work r) r a b x t β) r (S .source r) refl (P .scheduled .chooses r hr)
-        ∙ ap (takeRow J r (inFill (S .work r) r a b x t β)) (choose-right G (afterWork G (J .plan) S r t) (S .source r) (h - suc r) (P .right r t hr y) a b hb)
+        ∙ ap (takeRow J r (inFill (S .work r) r a b x t β)) (choose-right G (afterFilling G (J .plan) S r t) (S .source r) (h - suc r) (P .right r t hr y) a b hb)
 
     row-step : (k c : ℕ) (v : X) → r + suc k ≡ h → P .Ready r t → b < G .codes → choose G k a b (rightEntry G k b) ≡ chosen c v
-        → unit J (inFill (S .work r) r a b x t β) ≡ atRow (suc r) b c (G .add k c x) (afterWork G (J .plan) S r t) (J .write r c β)
+        → unit J (inFill (S .work r) r a b x t β) ≡ atRow (suc r) b c (G .add k c x) (afterFilling G (J .plan) S r t) (J .write r c β)
     row-step k c v e y hb p =
         let ek : h - suc r ≡ k = omega arith in
         let q : choose G (h - suc r) a b (rightEntry G (h - suc r) b) ≡ chosen c v = rw ek p in
@@ -117,8 +117,8 @@ module _ {X B : Type 0} (J : Setup X B) (S : Schedule) (P : SoundPlan (J .kind) 
   abbrev rowsEnd : ℕ → List ℕ → ℕ → ℕ → ℕ → X → List X → B → State X B
   rowsEnd k cs r a b x t β = record {
     units = S .start h;
-    above = aboveOf a b cs;
-    last = lastOf b cs;
+    above = rowAbove a b cs;
+    last = rowLast b cs;
     soFar = addRows G cs x;
     mark = finished;
     table = afterRows G (J .plan) S k r t;
@@ -134,12 +134,12 @@ module _ {X B : Type 0} (J : Setup X B) (S : Schedule) (P : SoundPlan (J .kind) 
 
   -- where the right rows are an ending, the job chooses them, writes them and is finished
   rows-run : (k r a : ℕ) → RowsRuns k r a
-  unfolding rightRows addRows writeRows afterRows span aboveOf lastOf
+  unfolding rightRows addRows writeRows afterRows span rowAbove rowLast
   rows-run zero r a b x t β e y hb l = let er : r ≡ h = omega arith in rw (le-ltb r h (omega arith)) (rw er here)
   rows-run (suc k) r a b x t β e y hb l = go (choose G k a b (rightEntry G k b)) refl l (rows-run k (suc r) b)
     where
       t′ : List X
-      t′ = afterWork G (J .plan) S r t
+      t′ = afterFilling G (J .plan) S r t
 
       go : (o : Choice X) → choose G k a b (rightEntry G k b) ≡ o → Ending G (suc k) a b (rowsOf o (rightRows G k b))
           → RowsRuns k (suc r) b → RowsRun (suc k) (rowsOf o (rightRows G k b)) r a b x t β

@@ -11,7 +11,7 @@ use lib.ListN.{length}
 use Rattle.elimination.specs.Order.{isWorse, isTied}
 use Rattle.elimination.specs.Candidates.{Choice, NoBetterRow, NoBetterRows, BestCandidate, Found, noneFound, bestFound}
 use Rattle.elimination.specs.Kind.{Kind, worthOf, rowsOf, offer, choose, entry, rightEntry, rightRows}
-use Rattle.elimination.specs.Endings.{Ending, NoEnding, total, Optimal, Solved, noEnding, anEnding, Laws, EliminationSolves}
+use Rattle.elimination.specs.Endings.{Ending, NoEnding, total, BestEnding, Solved, noEnding, anEnding, Laws, EliminationSolves}
 use Rattle.elimination.proofs.Order.{rows-before-none, not-rows-before, tied-refl, tied-trans, worse-tied, tied-worse}
 use Rattle.elimination.proofs.Candidates.{scan-finds-best, chosen-keeps}
 use Rattle.elimination.proofs.Kind.{Offers, offer-some, some-offer}
@@ -38,14 +38,14 @@ module _ {X : Type 0} (G : Kind X) {h : ℕ} (L : Laws G h) where
   -- `Solved`, with a worth that rows can come to
   data SolvedValid (k a b : ℕ) (x : X) (cs : List ℕ) : Type 0 where
     validNone : NoEnding G k a b → x ≡ G .absent → cs ≡ [] → SolvedValid k a b x cs
-    validEnding : Optimal G k a b x cs → L .valid x ≡ true → SolvedValid k a b x cs
+    validEnding : BestEnding G k a b x cs → L .valid x ≡ true → SolvedValid k a b x cs
 
   -- one row more, above endings that are solved
   module _ (k a b : ℕ) (fits : suc k ≤ h) (ih : (c : ℕ) → SolvedValid k b c (rightEntry G k b c) (rightRows G k b c)) where
     -- below b over c there is an ending: its right entry counts
     record Rest (c : ℕ) : Type 0 where
       counted : G .counts (rightEntry G k b c) ≡ true
-      optimal : Optimal G k b c (rightEntry G k b c) (rightRows G k b c)
+      optimal : BestEnding G k b c (rightEntry G k b c) (rightRows G k b c)
       valid : L .valid (rightEntry G k b c) ≡ true
 
     rest-of-ending : (c : ℕ) (ds : List ℕ) → Ending G k b c ds → Rest c
@@ -82,7 +82,7 @@ module _ {X : Type 0} (G : Kind X) {h : ℕ} (L : Laws G h) where
         isTied (tied-trans (L .ordered) (L .add-tied e) e') (not-rows-before (G .comparison .greaterFirst) d r ds (rightRows G k b r) g' (λ q. rw (← q) g))
 
     optimal-more : (r : ℕ) (y : X) → BestCandidate (G .comparison) (offer G k a b (rightEntry G k b)) (G .codes) r y
-        → Optimal G (suc k) a b y (r ∷ rightRows G k b r)
+        → BestEnding G (suc k) a b y (r ∷ rightRows G k b r)
     optimal-more r y C = record {
       lawful = (C .inside, o .allowed, T .lawful);
       worth = rw (total-ending G k b r (rightRows G k b r) (T .lawful)) (tied-trans (L .ordered) (L .add-tied (T .worth)) (rw (o .worth) at (C .tied)));
@@ -92,7 +92,7 @@ module _ {X : Type 0} (G : Kind X) {h : ℕ} (L : Laws G h) where
         o : Offers G k a b (rightEntry G k b) r (C .worth)
         o = offer-some G k a b (rightEntry G k b) r (C .worth) (C .offered)
 
-        T : Optimal G k b r (rightEntry G k b r) (rightRows G k b r)
+        T : BestEnding G k b r (rightEntry G k b r) (rightRows G k b r)
         T = rest-of-counted r (o .counted) .optimal
 
         unbeaten : (ds : List ℕ) → Ending G (suc k) a b ds → NoBetterRows (G .comparison) (total G ds) ds y (r ∷ rightRows G k b r)

@@ -13,7 +13,7 @@ use lib.Seq.{getD-set-same, getD-set-other}
 use Rattle.elimination.specs.Kind.{Kind, entry}
 use Rattle.elimination.specs.Table.{reads, rightAt, RightLayer}
 use Rattle.elimination.specs.Task.{Task, fill, row, fillTask, afterTasks}
-use Rattle.elimination.specs.Plan.{Schedule, Scheduled, afterWork, SoundPlan}
+use Rattle.elimination.specs.Plan.{Schedule, Scheduled, afterFilling, SoundPlan}
 use Rattle.elimination.specs.Places.{writes, Stands, Filled, Orderly, TableFilled, OrderlySound}
 use Rattle.elimination.proofs.Numbers.{eq-or-lt-of-lt-suc}
 use Rattle.elimination.proofs.Kind.{right-entry-last}
@@ -107,17 +107,17 @@ module _ {X : Type 0} (G : Kind X) {h room long : ℕ} {plan : ℕ → Task} {S 
   abbrev at : ℕ → ℕ
   at r = S .start r + S .work r
 
-  worked : (r : ℕ) (t : List X) (y : Ready r t) → afterWork G plan S r t ≡ afterTasks G plan 0 (at r) (y .0)
+  worked : (r : ℕ) (t : List X) (y : Ready r t) → afterFilling G plan S r t ≡ afterTasks G plan 0 (at r) (y .0)
   worked r t y = ap (afterTasks G plan (S .start r) (S .work r)) (y .2) ∙ tasks-add G plan (S .start r) (S .work r) (y .0)
 
-  right : (r : ℕ) (t : List X) → r < h → Ready r t → RightLayer G (afterWork G plan S r t) (S .source r) (h - suc r)
+  right : (r : ℕ) (t : List X) → r < h → Ready r t → RightLayer G (afterFilling G plan S r t) (S .source r) (h - suc r)
   right r t l y =
       let in-time : at r < long = omega (arith, row-before C r l, spent) in
       rw (worked r t y)
       (λ j b. filled G O wide (y .0) (y .1) (at r) (omega (arith, in-time)) .right (S .source r + j) (h - suc r) j
       (O .chooses (at r) r (S .source r) in-time (C .chooses r l) j b))
 
-  again : (r : ℕ) (t : List X) → r < h → Ready r t → Ready (suc r) (afterWork G plan S r t)
+  again : (r : ℕ) (t : List X) → r < h → Ready r t → Ready (suc r) (afterFilling G plan S r t)
   again r t l y =
       (y .0, y .1, worked r t y ∙ sym (ap (λ (m : ℕ). afterTasks G plan 0 m (y .0)) (C .next r) ∙ tasks-more G plan (at r) (y .0) ∙ ap (λ (o : Task). fillTask G o (afterTasks G plan 0 (at r) (y .0))) (C .chooses r l)))
 

@@ -5,21 +5,21 @@ use mathlib.Core.List.{List, [], _∷_}
 use Prim.Native.Nat.{ℕ, zero, suc, _<_}
 use lib.ListN.{length}
 use Rattle.elimination.specs.Kind.{Kind, rightEntry, rightRows}
-use Rattle.elimination.specs.Endings.{NoEnding, total, Optimal, Laws}
+use Rattle.elimination.specs.Endings.{NoEnding, total, BestEnding, Laws}
 use Rattle.elimination.specs.Task.{Task}
 use Rattle.elimination.specs.Machine.{ComesTo}
 use Rattle.elimination.specs.Job.{finished, infeasible, State, Setup, opened, machine}
-use Rattle.elimination.specs.Plan.{Schedule, afterWork, SoundPlan}
+use Rattle.elimination.specs.Plan.{Schedule, afterFilling, SoundPlan}
 
 -- the row above, once the rows cs stand below a over b
-unfoldable pub aboveOf : ℕ → ℕ → List ℕ → ℕ
-aboveOf a b [] = a
-aboveOf a b (c ∷ cs) = aboveOf b c cs
+unfoldable pub rowAbove : ℕ → ℕ → List ℕ → ℕ
+rowAbove a b [] = a
+rowAbove a b (c ∷ cs) = rowAbove b c cs
 
 -- the last row, once the rows cs stand below b
-unfoldable pub lastOf : ℕ → List ℕ → ℕ
-lastOf b [] = b
-lastOf b (c ∷ cs) = lastOf c cs
+unfoldable pub rowLast : ℕ → List ℕ → ℕ
+rowLast b [] = b
+rowLast b (c ∷ cs) = rowLast c cs
 
 -- what x comes to with the rows cs, the first of them added first
 unfoldable pub addRows : {X : Type 0} → Kind X → List ℕ → X → X
@@ -34,7 +34,7 @@ writeRows write r (c ∷ cs) β = writeRows write (suc r) cs (write r c β)
 -- the table once k more rows are chosen, from row r on
 unfoldable pub afterRows : {X : Type 0} → Kind X → (ℕ → Task) → Schedule → ℕ → ℕ → List X → List X
 afterRows G plan S zero r t = t
-afterRows G plan S (suc k) r t = afterRows G plan S k (suc r) (afterWork G plan S r t)
+afterRows G plan S (suc k) r t = afterRows G plan S k (suc r) (afterFilling G plan S r t)
 
 module _ {X B : Type 0} (J : Setup X B) where
   -- the rows that right entries choose for the whole board
@@ -50,8 +50,8 @@ module _ {X B : Type 0} (J : Setup X B) (S : Schedule) where
   abbrev pub boardEnd : List X → B → State X B
   boardEnd t β = record {
     units = S .start (J .height);
-    above = aboveOf 0 0 (boardRows J);
-    last = lastOf 0 (boardRows J);
+    above = rowAbove 0 0 (boardRows J);
+    last = rowLast 0 (boardRows J);
     soFar = total (J .kind) (boardRows J);
     mark = finished;
     table = afterRows (J .kind) (J .plan) S (J .height) 0 t;
@@ -66,13 +66,13 @@ module _ {X B : Type 0} (J : Setup X B) (S : Schedule) where
     last = 0;
     soFar = J .kind .start;
     mark = infeasible;
-    table = afterWork (J .kind) (J .plan) S 0 t;
+    table = afterFilling (J .kind) (J .plan) S 0 t;
     board = β;
   }
 
   -- the opened job comes to its end: there is a board, and it comes to the wanted one; or there is none, and it says so
   pub data Completion (t : List X) (β : B) : Type 0 where
-    toBoard : Optimal (J .kind) (J .height) 0 0 (boardWorth J) (boardRows J)
+    toBoard : BestEnding (J .kind) (J .height) 0 0 (boardWorth J) (boardRows J)
         → ComesTo (machine J) (opened (J .kind) t β) (boardEnd t β) (S .start (J .height)) → Completion t β
     toNone : NoEnding (J .kind) (J .height) 0 0 → ComesTo (machine J) (opened (J .kind) t β) (noneEnd t β) (suc (S .work 0)) → Completion t β
 

@@ -32,7 +32,7 @@ module _ {X : Type 0} (G : Kind X) where
   SameWorth x y = Tied (G .comparison .worse) x y
 
   -- cs is the ending that is wanted, and x its worth: it is one, none is better, and none as good comes before it
-  pub record Optimal (k a b : ℕ) (x : X) (cs : List ℕ) : Type 0 where
+  pub record BestEnding (k a b : ℕ) (x : X) (cs : List ℕ) : Type 0 where
     pub lawful : Ending k a b cs
     pub worth : SameWorth (total cs) x
     pub unbeaten : (ds : List ℕ) → Ending k a b ds → NoBetterRows (G .comparison) (total ds) ds x cs
@@ -40,7 +40,7 @@ module _ {X : Type 0} (G : Kind X) where
   -- x and cs answer what is wanted below a over b: the wanted ending with its worth, or none where there is none
   pub data Solved (k a b : ℕ) (x : X) (cs : List ℕ) : Type 0 where
     noEnding : NoEnding k a b → x ≡ G .absent → cs ≡ [] → Solved k a b x cs
-    anEnding : Optimal k a b x cs → Solved k a b x cs
+    anEnding : BestEnding k a b x cs → Solved k a b x cs
 
   -- what a kind of job has to show, for boards of up to h rows
   pub record Laws (h : ℕ) : Type 0 where

@@ -26,13 +26,13 @@ pub record Scheduled (h : ℕ) (plan : ℕ → Task) (S : Schedule) : Type 0 whe
 
 module _ {X : Type 0} (G : Kind X) where
   -- the table after the filling before row r
-  abbrev pub afterWork : (ℕ → Task) → Schedule → ℕ → List X → List X
-  afterWork plan S r t = afterTasks G plan (S .start r) (S .work r) t
+  abbrev pub afterFilling : (ℕ → Task) → Schedule → ℕ → List X → List X
+  afterFilling plan S r t = afterTasks G plan (S .start r) (S .work r) t
 
   -- From a table that is ready for row r, which is what the plan needs of it, row r's layer is right once filled, and the table is then ready for
   -- the next row.
   pub record SoundPlan (h : ℕ) (plan : ℕ → Task) (S : Schedule) : Type 1 where
     pub scheduled : Scheduled h plan S
     pub Ready : ℕ → List X → Type 0
-    pub right : (r : ℕ) (t : List X) → r < h → Ready r t → RightLayer G (afterWork plan S r t) (S .source r) (h - suc r)
-    pub again : (r : ℕ) (t : List X) → r < h → Ready r t → Ready (suc r) (afterWork plan S r t)
+    pub right : (r : ℕ) (t : List X) → r < h → Ready r t → RightLayer G (afterFilling plan S r t) (S .source r) (h - suc r)
+    pub again : (r : ℕ) (t : List X) → r < h → Ready r t → Ready (suc r) (afterFilling plan S r t)

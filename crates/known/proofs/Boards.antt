@@ -44,6 +44,7 @@ known = record {
   spoiled = refl;
   above-600 = refl;
   up-to-600 = refl;
+  bytes = (refl, refl, refl, refl, refl);
   short-row = record { answers = refl; leaves = refl };
   a-comment = record { answers = refl; leaves = refl };
   cr-lf = record { answers = refl; leaves = refl };

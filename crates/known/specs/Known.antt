@@ -72,6 +72,8 @@ pub record Known : Type 0 where
   -- a number read from the table above 600 counts as none, and 600 doesn't
   pub above-600 : chosenBy 601 ≡ record { answer = refuses 9 []; units = 9; board = 0 ∷ 9 ∷ [] }
   pub up-to-600 : chosenBy 600 ≡ record { answer = finished 0; units = 10; board = 0 ∷ 0 ∷ [] }
+  -- the bytes of the form: LF, CR, !, ., O
+  pub bytes : (LF ≡ 10) × (CR ≡ 13) × (bang ≡ 33) × (dot ≡ 46) × (bigO ≡ 79)
   -- O, LF, .OO, LF: the short row is filled with dead cells, and the cell past the board isn't written
   pub short-row : ReadsText (bigO ∷ LF ∷ dot ∷ bigO ∷ bigO ∷ LF ∷ []) 0 (replicate 7 9) (1 ∷ 0 ∷ 0 ∷ 0 ∷ 1 ∷ 1 ∷ 9 ∷ []) (Board 3 2)
   -- O, LF, !, O, CR, O, LF, O: a line starting with ! is a comment, and a CR in it is allowed; a last line without LF counts

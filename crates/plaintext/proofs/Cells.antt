@@ -9,7 +9,7 @@ use native.Mathlib.Omega.{arith}
 use lib.Dec.{eqb}
 use lib.ListN.{length, getD, take, drop, replicate}
 use Rattle.board.specs.Search.{firstNot}
-use Rattle.writer.specs.Letters.{bigO, cellOf}
+use Rattle.writer.specs.Letters.{bigO, letterCell}
 use Rattle.writer.specs.Writing.{boardRows}
 use Rattle.plaintext.specs.Lines.{Line}
 use Rattle.plaintext.specs.Reading.{Judged, comment, isComment, withoutCR, letterAt, judgeRow, judge, judgeLines, rowsOf, filled, cellsOf}
@@ -58,7 +58,7 @@ board-all w zero b a = tt
 board-all w (suc h) b a = (all-take w b a, board-all w h (drop w b) (all-drop w b a))
 
 -- ---- the rows of a text, and their cells
-letters-all : (l : List ℕ) → AllCells (map cellOf l)
+letters-all : (l : List ℕ) → AllCells (map letterCell l)
 letters-all [] = tt
 letters-all (b ∷ l) = (small (eqb b bigO), letters-all l)
   where

@@ -12,11 +12,11 @@ use lib.Dec.{ltb, eqb, leb·zero, leb·suc-suc}
 use lib.ListN.{length, getD, take, drop, length-map, length-drop, drop-of-length-le, List·getD-eq-default}
 use lib.Seq.{drop-drop, take-length, length-take-le}
 use Rattle.board.specs.Search.{firstNot}
-use Rattle.writer.specs.Letters.{LF, cellOf}
+use Rattle.writer.specs.Letters.{LF, letterCell}
 use Rattle.plaintext.specs.declared.line.Kind.the-variants.{Comment, Row, Bad}
 use Rattle.plaintext.specs.Lines.{Line, inFront, linesOf}
 use Rattle.plaintext.specs.Reading.{Judged, comment, row, bad, isComment, endsInCR, withoutCR, letterAt, judgeRow, judge, judgeLines, judged}
-use Rattle.plaintext.specs.Scanning.{firstNotOr, noLFAt, lineBetween, EndsAt, kindOf}
+use Rattle.plaintext.specs.Scanning.{firstNotOr, noLFAt, lineBetween, EndsAt, lineKind}
 use Rattle.plaintext.proofs.Stops.{Stopped, stopped, all-passed, one-fails}
 
 -- where `cc` joins two constructors it gives this equation
@@ -103,7 +103,7 @@ judged-more text from end e =
 
 -- ---- the kind of a line
 module _ (at : ℕ) (l : Line) where
-  pub comment-kind : isComment (l .bytes) ≡ true → Comment ≡ kindOf (judge at l)
+  pub comment-kind : isComment (l .bytes) ≡ true → Comment ≡ lineKind (judge at l)
   unfolding judge
   comment-kind e = rw e
 
@@ -113,41 +113,41 @@ module _ (at : ℕ) (l : Line) where
     counted : letters ≡ firstNotOr (letterAt (withoutCR l)) (length (withoutCR l))
     counted = let e : take n (l .bytes) ≡ withoutCR l = rw long (row-first l .0) in rw e at count
 
-    pub bad-kind : letters < n → Bad (at + letters) ≡ kindOf (judge at l)
+    pub bad-kind : letters < n → Bad (at + letters) ≡ lineKind (judge at l)
     unfolding judge
     bad-kind h =
         let f = letterAt (withoutCR l) in
         let e = one-fails f (length (withoutCR l)) (rw (← counted, ← long) h) in
         rw (plain, e, ← counted)
 
-    pub row-kind : n ≤ letters → Row n ≡ kindOf (judge at l)
+    pub row-kind : n ≤ letters → Row n ≡ lineKind (judge at l)
     unfolding judge
     row-kind h =
         let e = all-passed (letterAt (withoutCR l)) (length (withoutCR l)) (rw (← counted, ← long) h) in
-        rw (plain, e, length-map (withoutCR l) cellOf, ← long)
+        rw (plain, e, length-map (withoutCR l) letterCell, ← long)
 
 -- ---- what a kind says of the judged line
-pub kind-comment : (j : Judged) → Comment ≡ kindOf j → j ≡ comment
+pub kind-comment : (j : Judged) → Comment ≡ lineKind j → j ≡ comment
 kind-comment comment e = refl
 kind-comment (row cells) e = let z : _≡_ {A = ℕ} 0 1 = cc in absurd (zero-ne-one z)
 kind-comment (bad place) e = let z : _≡_ {A = ℕ} 0 1 = cc in absurd (zero-ne-one z)
 
-pub kind-bad : (j : Judged) (p : ℕ) → Bad p ≡ kindOf j → j ≡ bad p
+pub kind-bad : (j : Judged) (p : ℕ) → Bad p ≡ lineKind j → j ≡ bad p
 kind-bad comment p e = let z : _≡_ {A = ℕ} 0 1 = cc in absurd (zero-ne-one z)
 kind-bad (row cells) p e = let z : _≡_ {A = ℕ} 0 1 = cc in absurd (zero-ne-one z)
 kind-bad (bad place) p e = cc
 
 -- a row of n letters is the first n bytes of the line
-pub kind-row : (at : ℕ) (l : Line) (n : ℕ) → Row n ≡ kindOf (judge at l) → (judge at l ≡ row (map cellOf (take n (l .bytes)))) × (n ≤ length (l .bytes))
+pub kind-row : (at : ℕ) (l : Line) (n : ℕ) → Row n ≡ lineKind (judge at l) → (judge at l ≡ row (map letterCell (take n (l .bytes)))) × (n ≤ length (l .bytes))
 unfolding judge
 kind-row at l n e = go (isComment (l .bytes)) (firstNot (letterAt (withoutCR l)) (length (withoutCR l))) e
   where
-    go : (t : Bool) (o : Option ℕ) → Row n ≡ kindOf (cond t comment (judgeRow at (withoutCR l) o))
-        → (cond t comment (judgeRow at (withoutCR l) o) ≡ row (map cellOf (take n (l .bytes)))) × (n ≤ length (l .bytes))
+    go : (t : Bool) (o : Option ℕ) → Row n ≡ lineKind (cond t comment (judgeRow at (withoutCR l) o))
+        → (cond t comment (judgeRow at (withoutCR l) o) ≡ row (map letterCell (take n (l .bytes)))) × (n ≤ length (l .bytes))
     go true o e = let z : _≡_ {A = ℕ} 0 1 = cc in absurd (zero-ne-one z)
     go false none e =
         let r = row-first l in
-        let m : n ≡ length (map cellOf (withoutCR l)) = cc in
-        let k : n ≡ length (withoutCR l) = m ∙ length-map (withoutCR l) cellOf in
+        let m : n ≡ length (map letterCell (withoutCR l)) = cc in
+        let k : n ≡ length (withoutCR l) = m ∙ length-map (withoutCR l) letterCell in
         (rw (k, r .0), rw k (r .1))
     go false (some p) e = let z : _≡_ {A = ℕ} 0 1 = cc in absurd (zero-ne-one z)

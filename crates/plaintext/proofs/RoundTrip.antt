@@ -18,7 +18,7 @@ use Rattle.board.proofs.Search.{none-of}
 use Rattle.board.proofs.Answers.{refuses-none, then-gives}
 use Rattle.board.proofs.Checks.{size-passes, boarded}
 use Rattle.writer.specs.declared.Written as O
-use Rattle.writer.specs.Letters.{CR, bang, dot, bigO, isLetter, cellOf, letterOf}
+use Rattle.writer.specs.Letters.{CR, bang, dot, bigO, isLetter, letterCell, letterOf}
 use Rattle.writer.specs.Writing.{boardRows, rowText, boardText, textLength, writeRule, textOver, WritesText}
 use Rattle.writer.proofs.BoardRows.{rest-long, board-text-long}
 use Rattle.plaintext.specs.declared.Read as I
@@ -58,12 +58,12 @@ all-letters [] k h = absurd (not-suc-le-zero h)
 all-letters (c ∷ cs) zero h = letter-cases (λ (b : ℕ). isLetter b ≡ true) refl refl (eqb c 0)
 all-letters (c ∷ cs) (suc k) h = all-letters cs k (le-of-suc-le-suc h)
 
-cell-back : (c : ℕ) → c ≤ 1 → cellOf (letterOf c) ≡ c
+cell-back : (c : ℕ) → c ≤ 1 → letterCell (letterOf c) ≡ c
 cell-back zero h = refl
 cell-back (suc zero) h = refl
 cell-back (suc (suc c)) h = absurd (not-suc-le-zero (le-of-suc-le-suc h))
 
-cells-back : (r : List ℕ) → AllCells r → map cellOf (map letterOf r) ≡ r
+cells-back : (r : List ℕ) → AllCells r → map letterCell (map letterOf r) ≡ r
 cells-back [] a = refl
 cells-back (c ∷ cs) a = ap₂ {C = List ℕ} (λ x xs. x ∷ xs) (cell-back c (a .0)) (cells-back cs (a .1))
 

@@ -7,7 +7,7 @@ use native.Mathlib.Nat.{mul-suc, mul-zero}
 use native.Mathlib.Omega.{arith}
 use lib.ListN.{length, getD, replicate, length-append, length-map, length-replicate, getD-replicate, List·getD-append, List·getD-map}
 use lib.Seq.{getD-append-add}
-use Rattle.writer.specs.Letters.{cellOf}
+use Rattle.writer.specs.Letters.{letterCell}
 use Rattle.plaintext.specs.Reading.{filled, widthOf, cellsOf}
 
 -- ---- a row's cells
@@ -16,20 +16,20 @@ unfolding filled
 filled-long w r h = rw (length-append, length-replicate {A = ℕ} (w - length r) 0) (omega arith)
 
 -- of a row of letters
-pub filled-letters-long : (w : ℕ) (r : List ℕ) → length r ≤ w → length (filled w (map cellOf r)) ≡ w
-filled-letters-long w r h = filled-long w (map cellOf r) (rw (length-map r cellOf) h)
+pub filled-letters-long : (w : ℕ) (r : List ℕ) → length r ≤ w → length (filled w (map letterCell r)) ≡ w
+filled-letters-long w r h = filled-long w (map letterCell r) (rw (length-map r letterCell) h)
 
-pub filled-cell : (w : ℕ) (r : List ℕ) (k : ℕ) → k < length r → getD (filled w (map cellOf r)) k 0 ≡ cellOf (getD r k 0)
+pub filled-cell : (w : ℕ) (r : List ℕ) (k : ℕ) → k < length r → getD (filled w (map letterCell r)) k 0 ≡ letterCell (getD r k 0)
 unfolding filled
 filled-cell w r k h =
-    let g : k < length (map cellOf r) = rw (length-map r cellOf) h in
-    rw (List·getD-append (map cellOf r) (replicate (w - length (map cellOf r)) 0) 0 k g) (List·getD-map cellOf r k 0)
+    let g : k < length (map letterCell r) = rw (length-map r letterCell) h in
+    rw (List·getD-append (map letterCell r) (replicate (w - length (map letterCell r)) 0) 0 k g) (List·getD-map letterCell r k 0)
 
-pub filled-dead : (w : ℕ) (r : List ℕ) (k : ℕ) → length r ≤ k → k < w → getD (filled w (map cellOf r)) k 0 ≡ 0
+pub filled-dead : (w : ℕ) (r : List ℕ) (k : ℕ) → length r ≤ k → k < w → getD (filled w (map letterCell r)) k 0 ≡ 0
 unfolding filled
 filled-dead w r k l h =
-    let m = map cellOf r in
-    let e : length m ≡ length r = length-map r cellOf in
+    let m = map letterCell r in
+    let e : length m ≡ length r = length-map r letterCell in
     let q : k ≡ length m + (k - length m) = omega arith in
     let g : getD (m ++ replicate (w - length m) 0) (length m + (k - length m)) 0 ≡ 0
     = getD-append-add m (replicate (w - length m) 0) (k - length m) 0 ∙ getD-replicate (w - length m) (k - length m) 0 0 (omega arith)

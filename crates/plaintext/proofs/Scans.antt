@@ -10,13 +10,13 @@ use native.Mathlib.Omega.{arith}
 use borrow.Rule.Slice.PartMut.{putMid}
 use lib.ListN.{length, take, drop, length-map, length-drop}
 use lib.Seq.{take-take, length-take-le}
-use Rattle.writer.specs.Letters.{cellOf}
+use Rattle.writer.specs.Letters.{letterCell}
 use Rattle.writer.proofs.Over.{over, over-all, lent-block, block-rest}
 use Rattle.plaintext.specs.declared.line.Kind.{Kind}
 use Rattle.plaintext.specs.declared.line.Kind.the-variants.{Comment, Row, Bad}
 use Rattle.plaintext.specs.declared.scan.Measured.the-variants.{Size}
 use Rattle.plaintext.specs.Reading.{Judged, comment, row, bad, judge, judged, firstBad, rowsOf, widthOf, filled, cellsOf, boardOver}
-use Rattle.plaintext.specs.Scanning.{lineBetween, EndsAt, kindOf, measureOf}
+use Rattle.plaintext.specs.Scanning.{lineBetween, EndsAt, lineKind, measureOf}
 use Rattle.plaintext.proofs.RowCells.{filled-long, cells-more, cells-long}
 use Rattle.plaintext.proofs.Lines.{judged-none, line-long, judged-more, kind-comment, kind-bad, kind-row}
 
@@ -26,26 +26,26 @@ module _ (text : List ℕ) (from end : ℕ) (ends : EndsAt text from end) where
   abbrev kind : Judged
   kind = judge from (lineBetween text from end)
 
-  pub comment-line : Comment ≡ kindOf kind → judged text from ≡ comment ∷ judged text (end + 1)
+  pub comment-line : Comment ≡ lineKind kind → judged text from ≡ comment ∷ judged text (end + 1)
   comment-line e = rw (← kind-comment kind e) (judged-more text from end ends)
 
-  pub bad-line : (p : ℕ) → Bad p ≡ kindOf kind → judged text from ≡ bad p ∷ judged text (end + 1)
+  pub bad-line : (p : ℕ) → Bad p ≡ lineKind kind → judged text from ≡ bad p ∷ judged text (end + 1)
   bad-line p e = rw (← kind-bad kind p e) (judged-more text from end ends)
 
   -- a row of n letters: they stand from the line's start on
-  pub row-fits : (n : ℕ) → Row n ≡ kindOf kind → from + n ≤ length text
+  pub row-fits : (n : ℕ) → Row n ≡ lineKind kind → from + n ≤ length text
   row-fits n e =
       let m = line-long text from end ends in
       omega (arith, kind-row from (lineBetween text from end) n e .1, ends .inside, ends .forward)
 
-  pub row-line : (n : ℕ) → Row n ≡ kindOf kind → judged text from ≡ row (map cellOf (take n (drop from text))) ∷ judged text (end + 1)
+  pub row-line : (n : ℕ) → Row n ≡ lineKind kind → judged text from ≡ row (map letterCell (take n (drop from text))) ∷ judged text (end + 1)
   row-line n e =
       let k = kind-row from (lineBetween text from end) n e in
       let m = line-long text from end ends in
       let t : take n (take (end - from) (drop from text)) ≡ take n (drop from text) = take-take n (end - from) (drop from text) (omega (arith, k .1)) in
       rw (← t, ← k .0) (judged-more text from end ends)
 
-  pub row-long : (n : ℕ) → Row n ≡ kindOf kind → length (take n (drop from text)) ≡ n
+  pub row-long : (n : ℕ) → Row n ≡ lineKind kind → length (take n (drop from text)) ≡ n
   row-long n e = length-take-le n (drop from text) (rw (length-drop from text) (omega (arith, row-fits n e)))
 
 -- ---- a text is measured: `width` and `height` are those of the lines before the place `next`
@@ -71,24 +71,24 @@ module _ (text : List ℕ) (at : ℕ) where
         rw (← p, w, z)
 
     module _ (end : ℕ) (ends : EndsAt text from end) where
-      pub passed-comment : Comment ≡ kindOf (kind text from end ends) → Passed text at width height (end + 1)
+      pub passed-comment : Comment ≡ lineKind (kind text from end ends) → Passed text at width height (end + 1)
       unfolding firstBad rowsOf
       passed-comment e =
           let s = comment-line text from end ends e in
           record { places = rw s at (c .places); wide = rw s at (c .wide); high = rw s at (c .high); few = omega (arith, c .few, ends .forward) }
 
-      pub passed-row : (n : ℕ) → Row n ≡ kindOf (kind text from end ends) → Passed text at (max width n) (height + 1) (end + 1)
+      pub passed-row : (n : ℕ) → Row n ≡ lineKind (kind text from end ends) → Passed text at (max width n) (height + 1) (end + 1)
       unfolding firstBad rowsOf widthOf
       passed-row n e =
           let s = row-line text from end ends n e in
-          let r = map cellOf (take n (drop from text)) in
+          let r = map letterCell (take n (drop from text)) in
           let rest = rowsOf (judged text (end + 1)) in
           let x : max width (max (length r) (widthOf rest)) ≡ widthOf (rowsOf (judged text at)) = rw s at (c .wide) in
           let y : height + suc (length rest) ≡ length (rowsOf (judged text at)) = rw s at (c .high) in
-          let z : length r ≡ n = length-map (take n (drop from text)) cellOf ∙ row-long text from end ends n e in
+          let z : length r ≡ n = length-map (take n (drop from text)) letterCell ∙ row-long text from end ends n e in
           record { places = rw s at (c .places); wide = omega arith; high = omega arith; few = omega (arith, c .few, ends .forward) }
 
-      pub passed-bad : (p : ℕ) → Bad p ≡ kindOf (kind text from end ends) → firstBad (judged text at) ≡ some p
+      pub passed-bad : (p : ℕ) → Bad p ≡ lineKind (kind text from end ends) → firstBad (judged text at) ≡ some p
       unfolding firstBad
       passed-bad p e = sym (rw (bad-line text from end ends p e) at (c .places))
 
@@ -128,16 +128,16 @@ module _ (text : List ℕ) (at w : ℕ) (old : List ℕ) (wide : w ≡ widthOf (
       copied-same : rowsOf (judged text from) ≡ rowsOf (judged text (end + 1)) → Copied text at w old cells k (end + 1)
       copied-same e = record { narrow = rw e at (c .narrow); left = rw e at (c .left); count = rw e at (c .count); holds = c .holds }
 
-      pub copied-skip : (x : Kind) → ((n : ℕ) → x ≡ Row n → ⊥) → x ≡ kindOf (kind text from end ends) → Copied text at w old cells k (end + 1)
+      pub copied-skip : (x : Kind) → ((n : ℕ) → x ≡ Row n → ⊥) → x ≡ lineKind (kind text from end ends) → Copied text at w old cells k (end + 1)
       unfolding rowsOf
       copied-skip Comment other e = copied-same (rw (comment-line text from end ends e))
       copied-skip (Row n) other e = absurd (other n refl)
       copied-skip (Bad p) other e = copied-same (rw (bad-line text from end ends p e))
 
-      module _ (n : ℕ) (e : Row n ≡ kindOf (kind text from end ends)) where
+      module _ (n : ℕ) (e : Row n ≡ lineKind (kind text from end ends)) where
         -- the row at `from`, and those after it
         abbrev here : List ℕ
-        here = map cellOf (take n (drop from text))
+        here = map letterCell (take n (drop from text))
 
         abbrev rest : List (List ℕ)
         rest = rowsOf (judged text (end + 1))
@@ -154,7 +154,7 @@ module _ (text : List ℕ) (at w : ℕ) (old : List ℕ) (wide : w ≡ widthOf (
 
         -- the row is no longer than w, and has room
         pub row-narrow : length (take n (drop from text)) ≤ w
-        row-narrow = rw (length-map (take n (drop from text)) cellOf) at (narrow-here .0)
+        row-narrow = rw (length-map (take n (drop from text)) letterCell) at (narrow-here .0)
 
         pub row-room : k + w ≤ w * length (rowsOf (judged text at))
         row-room = let x = counted in omega arith

@@ -11,7 +11,7 @@ use lib.ListN.{length, getD, take, drop, replicate}
 use Rattle.board.specs.Search.{firstNot}
 use Rattle.board.specs.Answers.{Answer, gives, refusalSays, _then_, refuseUnless, refuseAt, after}
 use Rattle.board.specs.Checks.{widthCheck, heightCheck}
-use Rattle.writer.specs.Letters.{CR, bang, isLetter, cellOf}
+use Rattle.writer.specs.Letters.{CR, bang, isLetter, letterCell}
 use Rattle.plaintext.specs.declared.Read.{Read}
 use Rattle.plaintext.specs.declared.Read.the-variants.{Board, Refused}
 use Rattle.plaintext.specs.Lines.{Line, linesOf}
@@ -42,7 +42,7 @@ letterAt bytes place = isLetter (getD bytes place 0)
 -- "Other lines are rows of . (dead) and O (live)": a row that starts at a place of the text, by the first place in it that holds no letter.
 -- "a CR elsewhere outside a comment is refusal 8": it is no letter
 abbrev pub judgeRow : ℕ → List ℕ → Option ℕ → Judged
-judgeRow at bytes none = row (map cellOf bytes)
+judgeRow at bytes none = row (map letterCell bytes)
 judgeRow at bytes (some place) = bad (at + place)
 
 -- a line that starts at a place

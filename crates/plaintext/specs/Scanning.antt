@@ -35,10 +35,10 @@ pub record EndsAt (text : List ℕ) (from end : ℕ) : Type 0 where
   pub first : linesOf (drop from text) ≡ lineBetween text from end ∷ linesOf (drop (end + 1) text)
 
 -- a judged line, a row by its length alone
-abbrev pub kindOf : Judged → Kind
-kindOf comment = Comment
-kindOf (row cells) = Row (length cells)
-kindOf (bad place) = Bad place
+abbrev pub lineKind : Judged → Kind
+lineKind comment = Comment
+lineKind (row cells) = Row (length cells)
+lineKind (bad place) = Bad place
 
 -- the place of the first byte that isn't allowed, or else the rows' width and height
 abbrev pub measureOf : Option ℕ → List (List ℕ) → M.Measured

@@ -4,7 +4,7 @@ ghost use Prim.Native.Nat.{_<_, _≤_};
 ghost use lib.ListN.{length};
 ghost use Rattle.writer.specs.Letters.{isLetter};
 ghost use Rattle.plaintext.specs.Reading.{isComment, withoutCR, letterAt, judge};
-ghost use Rattle.plaintext.specs.Scanning.{firstNotOr, noLFAt, lineBetween, EndsAt, kindOf};
+ghost use Rattle.plaintext.specs.Scanning.{firstNotOr, noLFAt, lineBetween, EndsAt, lineKind};
 
 // A comment; a row of so many letters; or a byte that isn't allowed, at a place of the text.
 pub enum Kind {
@@ -24,7 +24,7 @@ pub fn line_end(text: &[u8], from: usize) -> usize
 // What the line from a place to its end is.
 pub fn classify(text: &[u8], from: usize, end: usize) -> Kind
     requires { ⌜ (from ≤ end) × (end ≤ length (now text)) ⌝ }
-    ensures { λ r. ⌜ r ≡ kindOf (judge from (lineBetween (now (text .entry)) from end)) ⌝ }
+    ensures { λ r. ⌜ r ≡ lineKind (judge from (lineBetween (now (text .entry)) from end)) ⌝ }
 {
     let line = &text[from..end];
     if is_comment(line) {

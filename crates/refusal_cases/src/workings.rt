@@ -1,4 +1,4 @@
-// Working calls on a grid of 2 by 2, which needs 32 entries, over a table of 700 and a board of 9.
+// Working calls on a grid of 2 by 2, which needs 32 entries. The table's entries are 700 and the board's bytes 9 before each call.
 use crate::numbers;
 use job::Job;
 use job::Stage;

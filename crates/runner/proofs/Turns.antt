@@ -22,7 +22,7 @@ use Rattle.solver.specs.Calls.{Result}
 use Rattle.solver.specs.Inner.{lentState}
 use Rattle.service.specs.Demand.{Call, work, afterWork, afterCall, run, Each, Fair, counted, allowed, summed, Answers, Served, Outcome, solved, unsolvable}
 use Rattle.service.specs.JobKinds.{aimOf}
-use Rattle.solver.specs.Demand.{Filled, gridKind, ThirdDemand}
+use Rattle.solver.specs.Demand.{FilledTo, gridKind, ThirdDemand}
 use Rattle.job.specs.declared.Job.{Job}
 use Rattle.job.specs.declared.JobResult.{JobResult}
 use Rattle.solver.proofs.CheckLaws.{work-checked, lent-of}
@@ -75,7 +75,7 @@ record Turned (rule : Rule) (w h : ℕ) (g t₀ β₀ : List ℕ) (n : ℕ) (s :
   units : r .state .job .units ≡ min long (s .job .units + n)
   under : r .state .job .units < long → r .answer ≡ unfinished
   from : long ≤ r .state .job .units → r .answer ≡ final
-  filled : Filled rule w h g (min (r .state .job .units) (tableSize w h)) t₀ (r .state .table)
+  filled : FilledTo rule w h g (min (r .state .job .units) (tableSize w h)) t₀ (r .state .table)
   board : long ≤ s .job .units + n → r .state .board ≡ wanted
 
 module _ {rule : Rule} {w h : ℕ} {g t₀ β₀ : List ℕ} {n : ℕ} {s : State} {r : Result} (T : Turned rule w h g t₀ β₀ n s r) where

@@ -11,7 +11,7 @@ use Rattle.rule.specs.declared.Rule.{Rule}
 use Rattle.solver.specs.Grid.{Solution, Optimal, score}
 use Rattle.job.specs.Jobs.{start, readCheck}
 use Rattle.service.specs.Service.{finished, infeasible}
-use Rattle.solver.specs.Demand.{Filled}
+use Rattle.solver.specs.Demand.{FilledTo}
 use Rattle.job.specs.declared.Job.{Job}
 use Rattle.runner.specs.declared.Solved.{Solved}
 
@@ -39,7 +39,7 @@ pub data Ends (rule : Rule) (w h : ℕ) (givens board : List ℕ) (says : Answer
 pub record Comes (check : Answer) (rule : Rule) (w h : ℕ) (givens table board : List ℕ) (says : Answer) (table′ board′ : List ℕ) : Type 0 where
   pub turned : (n : ℕ) (values : List ℕ) → check ≡ refuses n values → (says ≡ refuses n values) × (table′ ≡ table) × (board′ ≡ board)
   pub ended : check ≡ passed → Ends rule w h givens board says board′
-  pub filled : check ≡ passed → Filled rule w h givens (tableSize w h) table table′
+  pub filled : check ≡ passed → FilledTo rule w h givens (tableSize w h) table table′
 
 pub record Solves (rule : Rule) (w h : ℕ) (givens table board : List ℕ) (r : Solved) (table′ board′ : List ℕ) : Type 0 where
   pub comes : Comes (solveCheck rule w h givens table board) rule w h givens table board (solvedSays r) table′ board′

@@ -11,12 +11,12 @@ use Rattle.elimination.proofs.FillThenChoose.{place-digits, place-lt}
 use Rattle.board.specs.Checks.{tableSize}
 use Rattle.elimination.specs.Task.{row}
 use Rattle.elimination.specs.FillThenChoose.{fillAt, plan}
-use Rattle.score_table.specs.ScoreTable.{placeOf, unitPlace, InPlace, PlacesRight}
+use Rattle.score_table.specs.ScoreTable.{entryPlace, unitPlace, InPlace, PlacesRight}
 use Rattle.board.proofs.Powers.{four-two, table-four}
 
 -- the place that a unit writes, by its layer and its place there
 pub unit-place : (w h u : ℕ) → unitPlace w h u ≡ (h - 1 - u / 4 ^ w) * 4 ^ w + u % 4 ^ w
-unfolding unitPlace placeOf
+unfolding unitPlace entryPlace
 unit-place w h u =
     let j = u % 4 ^ w in
     let e : h - u / 4 ^ w - 1 ≡ h - 1 - u / 4 ^ w = omega arith in
@@ -31,7 +31,7 @@ unit-place-lt w h u l = rw (place-same w h u, table-four w h) (place-lt h (2 ^ w
 
 -- ---- the tasks of a grid's plan lie where document 01 has the entries
 pub places-right : PlacesRight
-unfolding plan placeOf
+unfolding plan entryPlace
 places-right w h u = go (ltb u (h * q))
   where
     q : ℕ

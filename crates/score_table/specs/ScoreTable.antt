@@ -48,8 +48,8 @@ kindOf next w h givens = kindFor mostLive next w h givens
 
 -- ---- where entries lie
 -- the place of entry (i, a, b), counted from 0
-unfoldable pub placeOf : ℕ → ℕ → ℕ → ℕ → ℕ
-placeOf w i a b = (i - 1) * 4 ^ w + a * 2 ^ w + b
+unfoldable pub entryPlace : ℕ → ℕ → ℕ → ℕ → ℕ
+entryPlace w i a b = (i - 1) * 4 ^ w + a * 2 ^ w + b
 
 -- the numbers that a table holds from a place on
 abbrev pub readsFrom : List ℕ → ℕ → ℕ → ℕ
@@ -57,7 +57,7 @@ readsFrom table first c = getD table (first + c) 0
 
 -- the numbers that it holds for the rows c below b in row i: entries (i, b, c)
 abbrev pub readsOf : ℕ → List ℕ → ℕ → ℕ → ℕ → ℕ
-readsOf w table i b c = getD table (placeOf w i b c) 0
+readsOf w table i b c = getD table (entryPlace w i b c) 0
 
 -- unit u of filling writes entry (h - rowsAfter, rowA, rowB): layer h first, then upward; in a layer a rises, then b
 abbrev pub rowsAfter : ℕ → ℕ → ℕ
@@ -71,14 +71,14 @@ rowB w u = u % 4 ^ w % 2 ^ w
 
 -- the place that it writes
 unfoldable pub unitPlace : ℕ → ℕ → ℕ → ℕ
-unitPlace w h u = placeOf w (h - rowsAfter w u) (rowA w u) (rowB w u)
+unitPlace w h u = entryPlace w (h - rowsAfter w u) (rowA w u) (rowB w u)
 
 -- ---- the tasks of a grid's plan
 -- what a task writes and reads lies where document 01 has it: entry (h - k, a, b), by entries (h - k + 1, b, c); and for row r + 1 entries (r + 1, b, c)
 abbrev pub InPlace : ℕ → ℕ → Task → Type 0
 InPlace w h (fill k source target j) =
-    (target + j ≡ placeOf w (h - k) (j / 2 ^ w) (j % 2 ^ w)) × ((b c : ℕ) → source + (b * 2 ^ w + c) ≡ placeOf w (h - k + 1) b c)
-InPlace w h (row r source) = (b c : ℕ) → source + (b * 2 ^ w + c) ≡ placeOf w (r + 1) b c
+    (target + j ≡ entryPlace w (h - k) (j / 2 ^ w) (j % 2 ^ w)) × ((b c : ℕ) → source + (b * 2 ^ w + c) ≡ entryPlace w (h - k + 1) b c)
+InPlace w h (row r source) = (b c : ℕ) → source + (b * 2 ^ w + c) ≡ entryPlace w (r + 1) b c
 
 -- THE PLACES: every task of the plan is in place
 abbrev pub PlacesRight : Type 0

@@ -9,8 +9,7 @@ use native.Mathlib.Nat.{eq-or-lt-of-le}
 use native.Mathlib.Omega.{arith}
 use lib.ListN.{length}
 use Rattle.board.specs.Answers.{Answer, passed}
-use Rattle.elimination.specs.Endings.{Solved, noEnding, anEnding}
-use Rattle.elimination.specs.Endings as Endings
+use Rattle.elimination.specs.Endings.{NoEnding, Solved, noEnding, anEnding, BestEnding}
 use Rattle.elimination.specs.Kind.{rightEntry, rightRows}
 use Rattle.elimination.specs.Machine.{advance, Lasts}
 use Rattle.elimination.specs.Job.{Mark, finished, infeasible, endMark, markNumber, Setup, opened, machine}
@@ -131,7 +130,7 @@ module _ (Given : Type 0) (check : Job → Given → List ℕ → List ℕ → A
   abbrev worth : ℕ
   worth = rightEntry (J .kind) (J .height) 0 0
 
-  board-course : (T : Endings.Optimal (J .kind) (J .height) 0 0 worth rows)
+  board-course : (T : BestEnding (J .kind) (J .height) 0 0 worth rows)
       → check (s .job) given (s .table) (s .board) ≡ passed
       → Course (serviceOf Given check unit) (aimOf K) F (K .shape .boardLength) (Service.finished (K .score (L .boardOf rows))) (L .boardOf rows) s
   board-course T p = go (completes (R .1))
@@ -163,7 +162,7 @@ module _ (Given : Type 0) (check : Job → Given → List ℕ → List ℕ → A
       rows-chosen-none (K .shape) (after m .units) (markNumber (after m .mark)) (ap (K .shape .chosen) (lasts .counted m l) ∙ z))
       (eq-or-lt-of-le l)
 
-  none-course : Endings.NoEnding (J .kind) (J .height) 0 0 → check (s .job) given (s .table) (s .board) ≡ passed
+  none-course : NoEnding (J .kind) (J .height) 0 0 → check (s .job) given (s .table) (s .board) ≡ passed
       → Course (serviceOf Given check unit) (aimOf K) F (K .shape .noneLength) Service.infeasible (s .board) s
   none-course n p = go (completes (R .1))
     where

@@ -6,8 +6,7 @@ use mathlib.Core.List.{List}
 use Prim.Native.Nat.{ℕ, suc, _*_, _≤_, _<_}
 use lib.ListN.{length}
 use Rattle.board.specs.Answers.{Answer, passed}
-use Rattle.elimination.specs.Endings.{Ending, NoEnding, total, Laws}
-use Rattle.elimination.specs.Endings as Endings
+use Rattle.elimination.specs.Endings.{Ending, NoEnding, total, Laws, BestEnding}
 use Rattle.elimination.specs.Job.{Setup}
 use Rattle.elimination.specs.Plan.{Schedule, Scheduled}
 use Rattle.elimination.specs.Completion.{writeRows}
@@ -88,7 +87,7 @@ module _ (Given : Type 0) (check : Job → Given → List ℕ → List ℕ → A
     pub boardOf : List ℕ → List ℕ
     pub into : (rows : List ℕ) → Ending (K .setup .kind) (K .setup .height) 0 0 rows → (β : List ℕ) → length β ≡ K .cells
         → writeRows (K .setup .write) 0 rows β ≡ boardOf rows
-    pub best : (x : ℕ) (rows : List ℕ) → Endings.Optimal (K .setup .kind) (K .setup .height) 0 0 x rows
+    pub best : (x : ℕ) (rows : List ℕ) → BestEnding (K .setup .kind) (K .setup .height) 0 0 x rows
         → K .Wanted (boardOf rows) × (K .score (boardOf rows) ≡ total (K .setup .kind) rows)
     pub none : NoEnding (K .setup .kind) (K .setup .height) 0 0 → (board : List ℕ) → K .Solution board → ⊥
     -- what is done, in the kind's own words, from what m units have done to table and board and from the rows and the worth that the job then carries;

@@ -14,8 +14,7 @@ use Rattle.board.specs.Boards.{Board}
 use Rattle.elimination.specs.Order.{rowsBefore, isWorse, isTied}
 use Rattle.elimination.specs.Candidates.{NoBetterRows}
 use Rattle.elimination.specs.Kind.{Kind}
-use Rattle.elimination.specs.Endings.{Ending, total}
-use Rattle.elimination.specs.Endings as Endings
+use Rattle.elimination.specs.Endings.{Ending, total, BestEnding}
 use Rattle.elimination.specs.Completion.{writeRows}
 use Rattle.elimination.specs.Progress.{RowWriter}
 use Rattle.elimination.proofs.Numbers.{lt-or-ge}
@@ -214,7 +213,7 @@ module _ (w h : ℕ) (other board : List ℕ) where
   equal-rows i f (suc r) l = f r (omega arith) (omega arith)
 
 -- ---- the optimal board
-module _ {rule : Rule} {w h : ℕ} (z : Frame rule w h) (g : List ℕ) (x : ℕ) (cs : List ℕ) (B : Endings.Optimal (kind rule w h g) h 0 0 x cs) where
+module _ {rule : Rule} {w h : ℕ} (z : Frame rule w h) (g : List ℕ) (x : ℕ) (cs : List ℕ) (B : BestEnding (kind rule w h g) h 0 0 x cs) where
   is-board : Board w h (boardOf w h cs)
   is-board = into-board z g cs (B .lawful) (blank w h) (blank-size w h)
 

@@ -28,7 +28,7 @@ use Rattle.board.proofs.Powers.{four-two, table-four}
 use Rattle.score_table.proofs.Places.{place-same}
 use Rattle.solver.specs.Grid.{score, Optimal}
 use Rattle.solver.specs.Units.{State, setupOf}
-use Rattle.solver.specs.Demand.{rightUnit, Filled, Progress, Of, gridKind}
+use Rattle.solver.specs.Demand.{rightUnit, FilledTo, Progress, Of, gridKind}
 use Rattle.solver.proofs.RowLaws.{row-inside, row-none, score-more, score-none}
 use Rattle.solver.proofs.Optimum.{readRow}
 use Rattle.solver.proofs.Endings.{kind}
@@ -47,7 +47,7 @@ module _ (rule : Rule) (w h : ℕ) (g : List ℕ) where
   right-same u = rw (four-two w) (sym (right-at-entry (kind rule w h g) (u / (2 ^ w * 2 ^ w)) (u % (2 ^ w * 2 ^ w))))
 
 table-filled : (rule : Rule) (w h : ℕ) (g : List ℕ) (m : ℕ) (t₀ t : List ℕ) → Places.Filled (kind rule w h g) (plan h (2 ^ w * 2 ^ w)) m t₀ t
-    → Filled rule w h g (min m (tableSize w h)) t₀ t
+    → FilledTo rule w h g (min m (tableSize w h)) t₀ t
 table-filled rule w h g m t₀ t F = record {
   size = F .size;
   right = λ u l.

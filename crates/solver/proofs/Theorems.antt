@@ -22,7 +22,7 @@ use Rattle.solver.specs.Grid.{Solution, BestBy, score, population}
 use Rattle.score_table.specs.Rows.{cellWorth, rowWorth}
 use Rattle.score_table.specs.ScoreTable.{absent, mostLive, readsOf}
 use Rattle.solver.specs.Theorems as Theorems
-use Rattle.solver.specs.Theorems.{allRows, EndingsAreSolutions, BestOrNone, best, none, ChoiceIsOptimal, rowsWorth, Greatest, greatest, RightLayer, EntriesRight, givenLive, GivensApart, SameBest}
+use Rattle.solver.specs.Theorems.{allRows, EndingsAreSolutions, BestOrNone, best, none, ChoiceIsOptimal, rowsWorth, Greatest, greatest, RightGridLayer, EntriesRight, givenLive, GivensApart, SameBest}
 use Rattle.score_table.proofs.Marks.{MarkIs, isDead, isLive, isFree, mark-is, worth-dead, worth-live, worth-free}
 use Rattle.job.proofs.Fits.{Frame}
 use Rattle.solver.proofs.Endings.{kind, kind-laws, solution-ends, ends-solution}
@@ -66,7 +66,7 @@ module _ (rule : Rule) {w h : ℕ} (z : Sized w h) (g : List ℕ) where
           most ds (isTied e f) = omega (arith, worth-total rule w h g ds, tied-equal false e)
 
   -- over right entries the rule gives a right entry
-  rule-right : (i a b : ℕ) → b < 2 ^ w → (t : List ℕ) → (i < h → RightLayer rule w h g t (i + 1)) → (k : ℕ) → h - i ≡ k
+  rule-right : (i a b : ℕ) → b < 2 ^ w → (t : List ℕ) → (i < h → RightGridLayer rule w h g t (i + 1)) → (k : ℕ) → h - i ≡ k
       → entry (kind rule w h g) k a b (readsOf w t (i + 1) b) ≡ rightEntry (kind rule w h g) k a b
   rule-right i a b l t right zero e = sym (right-entry-last (kind rule w h g) a b (readsOf w t (i + 1) b))
   rule-right i a b l t right (suc k) e =

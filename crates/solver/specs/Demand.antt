@@ -31,7 +31,7 @@ unfoldable pub rightUnit : Rule → ℕ → ℕ → List ℕ → ℕ → ℕ
 rightUnit rule w h givens u = rightEntry (kindOf (nextUnder rule) w h givens) (rowsAfter w u) (rowA w u) (rowB w u)
 
 -- the first n entries in filling order are right, and every other place of the table holds what it held
-pub record Filled (rule : Rule) (w h : ℕ) (givens : List ℕ) (n : ℕ) (before now : List ℕ) : Type 0 where
+pub record FilledTo (rule : Rule) (w h : ℕ) (givens : List ℕ) (n : ℕ) (before now : List ℕ) : Type 0 where
   pub size : length now ≡ length before
   pub right : (u : ℕ) → u < n → getD now (unitPlace w h u) 0 ≡ rightUnit rule w h givens u
   pub rest : (p : ℕ) → ((u : ℕ) → u < n → p ≡ unitPlace w h u → ⊥) → getD now p 0 ≡ getD before p 0
@@ -53,7 +53,7 @@ pub record Progress (rule : Rule) (w h : ℕ) (givens wanted : List ℕ) (before
   pub width : now .job .width ≡ w
   pub height : now .job .height ≡ h
   pub units : now .job .units ≡ entriesWritten w h (now .job) + chosenRows w h (now .job) + idleUnits (now .job)
-  pub filled : Filled rule w h givens (entriesWritten w h (now .job)) (before .table) (now .table)
+  pub filled : FilledTo rule w h givens (entriesWritten w h (now .job)) (before .table) (now .table)
   pub written : Written w (chosenRows w h (now .job)) wanted (before .board) (now .board)
   -- with k rows chosen, row above is row k - 1 of the wanted board and last row is row k, each 0 until such a row is chosen; the live cells so far are
   -- the score of its first k rows

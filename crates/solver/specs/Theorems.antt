@@ -62,13 +62,13 @@ pub data Greatest (rule : Rule) (w h : ℕ) (givens : List ℕ) (k a b x : ℕ) 
   noEnding : ((ds : List ℕ) → GridEnding rule w h givens k a b ds → ⊥) → x ≡ absent → Greatest rule w h givens k a b x
 
 -- layer i of a table is right: each of its entries (i, b, c) is the right one
-abbrev pub RightLayer : Rule → ℕ → ℕ → List ℕ → List ℕ → ℕ → Type 0
-RightLayer rule w h givens table i = (b c : ℕ) → b < 2 ^ w → c < 2 ^ w → readsOf w table i b c ≡ rightEntry (kindOf (nextUnder rule) w h givens) (h - i) b c
+abbrev pub RightGridLayer : Rule → ℕ → ℕ → List ℕ → List ℕ → ℕ → Type 0
+RightGridLayer rule w h givens table i = (b c : ℕ) → b < 2 ^ w → c < 2 ^ w → readsOf w table i b c ≡ rightEntry (kindOf (nextUnder rule) w h givens) (h - i) b c
 
 -- over a table whose layer i + 1 is right, the rule of entry (i, a, b) gives the right entry; layer h reads no layer. And a right entry is the
 -- greatest number of free live cells in rows i + 1 to h when row i - 1 is a and row i is b
 pub record EntryRight (rule : Rule) (w h : ℕ) (givens : List ℕ) (i a b : ℕ) : Type 0 where
-  pub from-below : (table : List ℕ) → (i < h → RightLayer rule w h givens table (i + 1))
+  pub from-below : (table : List ℕ) → (i < h → RightGridLayer rule w h givens table (i + 1))
       → entry (kindOf (nextUnder rule) w h givens) (h - i) a b (readsOf w table (i + 1) b) ≡ rightEntry (kindOf (nextUnder rule) w h givens) (h - i) a b
   pub means : Greatest rule w h givens (h - i) a b (rightEntry (kindOf (nextUnder rule) w h givens) (h - i) a b)
 

@@ -26,8 +26,8 @@ bigO = 79
 abbrev pub isLetter : ℕ → Bool
 isLetter b = eqb b dot || eqb b bigO
 
-abbrev pub cellOf : ℕ → ℕ
-cellOf letter = cond (eqb letter bigO) 1 0
+abbrev pub letterCell : ℕ → ℕ
+letterCell letter = cond (eqb letter bigO) 1 0
 
 abbrev pub letterOf : ℕ → ℕ
 letterOf cell = cond (eqb cell 0) dot bigO

@@ -8,7 +8,7 @@ use Prim.Native.Nat.{_-_, _≤_}
 use native.Mathlib.Omega.{arith}
 use borrow.Author.Needs.{needs}
 use lib.ListN.{length, length-set, getD}
-use Rattle.writer.specs.Letters.{cellOf}
+use Rattle.writer.specs.Letters.{letterCell}
 use Rattle.writer.proofs.Over.{over, over-more, over-all}
 use Rattle.plaintext.specs.Reading.{filled}
 use Rattle.plaintext.proofs.RowCells.{filled-letters-long, filled-cell, filled-dead}
@@ -16,7 +16,7 @@ use Rattle.plaintext.proofs.rows.fill_row.Statement.{statement}
 use Rattle.plaintext.proofs.rows.fill_row.Tie as tie
 
 abbrev Inv-loop : tie.InvT-loop
-Inv-loop w row cells₀ k₀ cells k = (k ≤ w) × (cells ≡ over (filled w (map cellOf row)) k cells₀) × (length cells ≡ length cells₀)
+Inv-loop w row cells₀ k₀ cells k = (k ≤ w) × (cells ≡ over (filled w (map letterCell row)) k cells₀) × (length cells ≡ length cells₀)
 
 abbrev μ-loop : tie.MeasureT-loop
 μ-loop w row cells₀ k₀ cells k = w - k
@@ -41,7 +41,7 @@ loop-less c = search needs
 
 -- what a turn stores is the filled row's cell
 stored : (c : tie.Joined1 Inv-loop μ-loop)
-    → let a = c .before .before .before .before .before .args in c .if1 .cells ≡ getD (filled (a .w) (map cellOf (a .row .now))) (c .before .before .loop .k) 0
+    → let a = c .before .before .before .before .before .args in c .if1 .cells ≡ getD (filled (a .w) (map letterCell (a .row .now))) (c .before .before .loop .k) 0
 stored c =
     let a = c .before .before .before .before .before .args in
     let k = c .before .before .loop .k in

@@ -13,7 +13,7 @@ use lib.ListN.{length, take, drop, length-drop}
 use Rattle.writer.proofs.Over.{rest-whole}
 use Rattle.plaintext.specs.declared.line.Kind.the-variants.{Row}
 use Rattle.plaintext.specs.Reading.{judge}
-use Rattle.plaintext.specs.Scanning.{lineBetween, kindOf}
+use Rattle.plaintext.specs.Scanning.{lineBetween, lineKind}
 use Rattle.plaintext.proofs.Scans.{row-fits, Copied, copied-none, copied-end, copied-skip, row-narrow, row-room, copied-row}
 use Rattle.plaintext.proofs.line.Kind.{enum}
 use Rattle.plaintext.proofs.scan.fill.Statement.{statement}
@@ -29,7 +29,7 @@ abbrev μ-loop : tie.MeasureT-loop
 is-row : (c : tie.After-n Inv-loop μ-loop)
     → let a = c .before .before .before .before .before .before .before .before .args in
     let from = c .before .before .before .before .before .loop .next in
-    Row (c .n .given .0 .0) ≡ kindOf (judge from (lineBetween (a .text .now) from (c .before .before .before .line-end .result)))
+    Row (c .n .given .0 .0) ≡ lineKind (judge from (lineBetween (a .text .now) from (c .before .before .before .line-end .result)))
 is-row c = sym (c .n .given .1) ∙ c .before .before .classify .ensures
 
 letters : (c : tie.After-n Inv-loop μ-loop)

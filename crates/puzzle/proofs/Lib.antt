@@ -1,0 +1,5 @@
+-- The laws of this crate that belong to no one function.
+pub mod Pieces
+pub mod Showing
+pub mod Solving
+pub mod Reading

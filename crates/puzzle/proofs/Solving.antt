@@ -1,0 +1,99 @@
+-- What is printed of a solved grid, by what solving answers.
+-- Assumes nothing.
+use mathlib.Core.Path.{_≡_, refl, sym, _∙_, ap}
+use mathlib.Core.Bool.{Bool, true, false, cond}
+use mathlib.Core.List.{List}
+use Prim.Native.Nat.{ℕ, _*_, _≤_, _<_}
+use native.Mathlib.Nat.{mul-le-mul}
+use native.Mathlib.Omega.{arith}
+use borrow.Author.Tests.{ltb-true, ltb-false}
+use lib.Dec.{eqb, ltb, leb}
+use lib.ListN.{length, getD, List·getD-eq-default}
+use Rattle.board.specs.Answers.{Answer, gives, refuses, passed, _then_, refuseUnless}
+use Rattle.board.specs.Boards.{Board}
+use Rattle.board.specs.Checks.{lengthCheck, tableSize, tableCheck}
+use Rattle.board.proofs.Answers.{refuses-none, then-gives, unless-gives}
+use Rattle.board.proofs.Sums.{total-le}
+use Rattle.rule.specs.Rule.{conwayRule, gridCheck}
+use Rattle.score_table.specs.Rows.{cellWorth}
+use Rattle.job.specs.Jobs.{readCheck}
+use Rattle.service.specs.Service.{finished, infeasible}
+use Rattle.solver.specs.Grid.{score}
+use Rattle.runner.specs.Solving.{memoryCheck, solveCheck, solvedSays, Ends, best, none, Comes, Solves}
+use Rattle.runner.specs.declared.Solved as Solved
+use Rattle.puzzle.specs.Printing.{Prints}
+use Rattle.puzzle.specs.Answering.{printed, SolvesGrid}
+
+-- a grid that is solved passed its checks, which give no values
+unless-passed : (t : Bool) (n : ℕ) {values : List ℕ} → refuseUnless t n ≡ gives values → gives values ≡ passed
+unless-passed t n e = sym e ∙ rw (unless-gives t n e) refl
+
+check-passed : (w h : ℕ) (g t β : List ℕ) {values : List ℕ} → solveCheck conwayRule w h g t β ≡ gives values → solveCheck conwayRule w h g t β ≡ passed
+unfolding solveCheck memoryCheck
+check-passed w h g t β e =
+    let a = then-gives (gridCheck conwayRule w h) (readCheck w h g then memoryCheck w h t β) e in
+    let b = then-gives (readCheck w h g) (memoryCheck w h t β) (a .1) in
+    let c = then-gives (lengthCheck 5 w h β) (tableCheck w h t) (b .1) in
+    e ∙ unless-passed (leb (tableSize w h) (length t)) 6 (c .1)
+
+-- ---- a board's score is at most its number of cells
+worth-le : (mark cell : ℕ) → cellWorth mark cell ≤ cell
+unfolding cellWorth
+worth-le mark cell = go (eqb mark 1) (eqb mark 2)
+  where
+    go : (s t : Bool) → cond s 0 (cond t 0 cell) ≤ cell
+    go true t = omega arith
+    go false true = omega arith
+    go false false = omega arith
+
+cell-small : {w h : ℕ} {cells : List ℕ} → Board w h cells → (p : ℕ) → getD cells p 0 ≤ 1
+cell-small {w} {h} {cells} B p = go (ltb p (length cells)) refl
+  where
+    go : (t : Bool) → ltb p (length cells) ≡ t → getD cells p 0 ≤ 1
+    go true e = B .bytes .states p (ltb-true _ _ e)
+    go false e = rw (List·getD-eq-default cells 0 (ltb-false p (length cells) e)) (omega arith)
+
+score-le : {w h : ℕ} (g : List ℕ) {cells : List ℕ} → Board w h cells → score w h g cells ≤ w * h
+unfolding score
+score-le {w} {h} g {cells} B =
+    let l = total-le (λ p. cellWorth (getD g p 0) (getD cells p 0)) 1 (λ p. omega (arith, worth-le (getD g p 0) (getD cells p 0), cell-small B p)) (w * h) in
+    omega arith
+
+-- ---- with a score, the board is one, and the score has at most three digits
+apart : {n : ℕ} → finished n ≡ infeasible → ⊥
+apart e = let z : _≡_ {A = ℕ} 0 1 = cc e in omega arith
+
+-- a board and a number of its live cells
+record Scored (w h : ℕ) (board : List ℕ) (n : ℕ) : Type 0 where
+  pub grid : Board w h board
+  pub low : n ≤ w * h
+
+ends-scored : {w h : ℕ} {g β β′ : List ℕ} {n : ℕ} → Ends conwayRule w h g β (finished n) β′ → Scored w h β′ n
+ends-scored {w} {h} {g} {β′ = β′} {n = n} (best o e) = let q : n ≡ score w h g β′ = cc e in record { grid = o .solution .grid; low = rw q (score-le g (o .solution .grid)) }
+ends-scored (none n e k) = absurd (apart e)
+
+module _ {w h : ℕ} {g t β t′ β′ : List ℕ} {n : ℕ} (c : Comes (solveCheck conwayRule w h g t β) conwayRule w h g t β (finished n) t′ β′) where
+  comes-scored : Scored w h β′ n
+  comes-scored = go (solveCheck conwayRule w h g t β) refl
+    where
+      go : (a : Answer) → solveCheck conwayRule w h g t β ≡ a → Scored w h β′ n
+      go (refuses k values) e = absurd (refuses-none (sym (c .turned k values e .0)))
+      go (gives values) e = ends-scored (c .ended (check-passed w h g t β e))
+
+module _ {w h : ℕ} {g t β t′ β′ : List ℕ} {v : Solved.Solved} (S : Solves conwayRule w h g t β v t′ β′) where
+  scored : {n : ℕ} → v ≡ Solved.Solved.Best n → Scored w h β′ n
+  scored e = comes-scored (rw (ap solvedSays e) at (S .comes))
+
+  pub solved-board : {n : ℕ} → v ≡ Solved.Solved.Best n → Board w h β′
+  solved-board e = scored e .grid
+
+  pub score-short : {n : ℕ} → v ≡ Solved.Solved.Best n → n < 1000
+  score-short e =
+      let s = scored e in
+      let m = mul-le-mul (s .grid .size .narrow) (s .grid .size .low) in
+      omega arith
+
+  -- what it answers is printed
+  pub prints-solved : {givens o o′ : List ℕ} {n : ℕ} (u : Solved.Solved) → g ≡ givens → v ≡ u → Prints (printed w h u β′) o n o′
+      → SolvesGrid w h givens t β o n t′ β′ o′
+  prints-solved u given e P = record { answer = v; solves = rw given at S; prints = rw e P }
