@@ -4,9 +4,10 @@ use mathlib.Core.Path.{_≡_, refl, ap}
 use Prim.Native.Nat.{ℕ, zero, suc, _+_, _*_, _/_, _%_, _^_, _<_, _≤_}
 use native.Mathlib.Nat.{mod-eq-of-lt, one-mul, mul-le-mul, pow-suc, div-lt-iff-lt-mul, le-div-iff-mul-le}
 use native.Mathlib.Omega.{arith}
+use borrow.Author.Tests.{le-leb}
 use lib.Pow.{pow-pos, pow-mono, pow-add}
 use Rattle.board.specs.Boards.{maxWidth, maxHeight}
-use Rattle.board.specs.Checks.{tableSize}
+use Rattle.board.specs.Checks.{tableSize, tableSizeWithin}
 
 -- ---- 2^w
 pub two-le : {w : ℕ} → w ≤ maxWidth → 2 ^ w ≤ 1024
@@ -29,13 +30,14 @@ four-pos w = rw (four-pow w) at (pow-pos (2 * w))
 pub four-le : {w : ℕ} → w ≤ maxWidth → 4 ^ w ≤ 1048576
 four-le {w} l = let b : 2 ^ (2 * w) ≤ 2 ^ 20 = pow-mono {j = 20} (omega arith) in rw (four-pow w) at b
 
-pub four-shift : {w : ℕ} → w ≤ maxWidth → 1 * 2 ^ (2 * w) % 2 ^ 64 ≡ 4 ^ w
-four-shift {w} l = let b : 4 ^ w ≤ 1048576 = four-le l in rw (one-mul, four-pow w) (mod-eq-of-lt (omega arith))
-
 -- ---- h × 4^w
 pub table-four : (w h : ℕ) → tableSize w h ≡ h * (2 ^ w * 2 ^ w)
 unfolding tableSize
 table-four w h = ap (λ (q : ℕ). h * q) (four-two w)
+
+pub table-one : (w : ℕ) → tableSize w 1 ≡ 4 ^ w
+unfolding tableSize
+table-one w = omega arith
 
 pub table-le : {w h : ℕ} → w ≤ maxWidth → h ≤ maxHeight → tableSize w h ≤ 62914560
 unfolding tableSize
@@ -44,6 +46,10 @@ table-le {w} {h} l m = let b : h * 4 ^ w ≤ 60 * 1048576 = mul-le-mul m (four-l
 pub table-shift : {w h : ℕ} → w ≤ maxWidth → h ≤ maxHeight → h * 2 ^ (2 * w) % 2 ^ 64 ≡ tableSize w h
 unfolding tableSize
 table-shift {w} {h} l m = let b : h * 4 ^ w ≤ 62914560 = table-le l m in rw (four-pow w) (mod-eq-of-lt (omega arith))
+
+pub table-within : {w h : ℕ} → w ≤ maxWidth → h ≤ maxHeight → tableSizeWithin w h ≡ tableSize w h
+unfolding tableSizeWithin
+table-within {w} {h} l m = rw (le-leb w maxWidth l, le-leb h maxHeight m)
 
 -- a number is below it exactly where a shift by 2 w leaves less than h
 pub shift-short : (w h x : ℕ) → x / 2 ^ (2 * w) < h → x < tableSize w h

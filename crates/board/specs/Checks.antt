@@ -2,7 +2,7 @@
 -- Assumes nothing.
 use mathlib.Core.Path.{_≡_}
 use mathlib.Core.Logic.{_↔_}
-use mathlib.Core.Bool.{Bool}
+use mathlib.Core.Bool.{Bool, cond, _&&_}
 use mathlib.Core.List.{List}
 use Prim.Native.Nat.{ℕ, _*_, _^_}
 use lib.Dec.{eqb, leb}
@@ -34,6 +34,10 @@ bytesCheck n most bytes = refuseAt (firstNot (atMost most bytes) (length bytes))
 -- the entries of a grid's score table: h × 4^w
 unfoldable pub tableSize : ℕ → ℕ → ℕ
 tableSize w h = h * 4 ^ w
+
+-- that of a width and a height within their limits, and 0 of any other
+unfoldable pub tableSizeWithin : ℕ → ℕ → ℕ
+tableSizeWithin w h = cond (leb w maxWidth && leb h maxHeight) (tableSize w h) 0
 
 -- 6, Short table: fewer entries than that
 abbrev pub tableCheck : ℕ → ℕ → List ℕ → Answer

@@ -1,11 +1,11 @@
-// What every call on a board shares: the refusals, and the checks of a size, a board and a grid of givens.
+// What every call on a board shares: the refusals, and the checks of a size, a board, a grid of givens and a table.
 ghost use mathlib.Core.Path.{_≡_};
 ghost use Prim.Native.Nat.{_*_};
 ghost use lib.Dec.{eqb};
 ghost use lib.ListN.{length};
 ghost use Rattle.board.specs.Answers.{numberOf, checkSays, placeOf};
 ghost use Rattle.board.specs.Boards.{among};
-ghost use Rattle.board.specs.Checks.{widthCheck, heightCheck, sizeCheck, cellsCheck, boardCheck, givensCheck, atMost, tableCheck};
+ghost use Rattle.board.specs.Checks.{widthCheck, heightCheck, sizeCheck, cellsCheck, boardCheck, givensCheck, atMost, tableSizeWithin, tableCheck};
 ghost use Rattle.board.specs.Search.{firstNot};
 
 // Why a call is turned away, in the order of the documents' numbers, with the first wrong place where they give one.
@@ -125,6 +125,19 @@ pub fn check_givens(w: usize, h: usize, givens: &[u8]) -> Check
         Place::At(i) => Check::Refused(Refusal::Mark(i)),
         Place::Nowhere => Check::Passed,
     }
+}
+
+// The entries of a grid's table, h × 4^w; 0 where the width or the height is past its limit.
+pub fn table_size(w: usize, h: usize) -> usize
+    ensures { λ r. ⌜ r ≡ tableSizeWithin w h ⌝ }
+{
+    if MAX_WIDTH < w {
+        return 0;
+    }
+    if MAX_HEIGHT < h {
+        return 0;
+    }
+    h << (2 * w)
 }
 
 // 6: h × 4^w entries or more, for any w and h: the product is never formed.

@@ -22,15 +22,6 @@ use Rattle.elimination.proofs.Table.{choose-right}
 use Rattle.elimination.proofs.Machine.{Runs, here, runs-come, runs-more, runs-add}
 use Rattle.elimination.proofs.Job.{unit-ended, unit-running, act-fill, unit-row}
 
--- ---- rows
-pub write-rows-none : {B : Type 0} (write : ℕ → ℕ → B → B) (r : ℕ) (β : B) → writeRows write r [] β ≡ β
-unfolding writeRows
-write-rows-none write r β = refl
-
-pub write-rows-more : {B : Type 0} (write : ℕ → ℕ → B → B) (r c : ℕ) (cs : List ℕ) (β : B) → writeRows write r (c ∷ cs) β ≡ writeRows write (suc r) cs (write r c β)
-unfolding writeRows
-write-rows-more write r c cs β = refl
-
 -- rows counted from the first on are worth their total
 module _ {X : Type 0} (G : Kind X) {h : ℕ} (L : Laws G h) where
   add-rows-add : (cs : List ℕ) (k c : ℕ) (x : X) → addRows G cs (G .add k c x) ≡ G .add k c (addRows G cs x)

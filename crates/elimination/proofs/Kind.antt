@@ -3,11 +3,10 @@
 use mathlib.Core.Path.{_≡_, refl}
 use mathlib.Core.Bool.{Bool, true, false, cond}
 use mathlib.Core.Option.{some}
-use mathlib.Core.List.{[]}
 use Prim.Native.Nat.{ℕ, zero, suc, _<_}
 use native.Mathlib.Omega.{arith}
 use Rattle.elimination.specs.Candidates.{scan}
-use Rattle.elimination.specs.Kind.{Kind, worthOf, rowsOf, offerIf, offer, choose, entry, rightEntry, rightRows}
+use Rattle.elimination.specs.Kind.{Kind, worthOf, offerIf, offer, choose, entry, rightEntry}
 use Rattle.elimination.proofs.Candidates.{scan-ext, RowBelow, scan-below}
 
 module _ {X : Type 0} (G : Kind X) where
@@ -49,14 +48,6 @@ module _ {X : Type 0} (G : Kind X) where
   pub right-entry-more : (k a b : ℕ) → rightEntry G (suc k) a b ≡ entry G (suc k) a b (rightEntry G k b)
   unfolding rightEntry
   right-entry-more k a b = refl
-
-  pub right-rows-none : (a b : ℕ) → rightRows G zero a b ≡ []
-  unfolding rightRows
-  right-rows-none a b = refl
-
-  pub right-rows-more : (k a b : ℕ) → rightRows G (suc k) a b ≡ rowsOf (choose G k a b (rightEntry G k b)) (rightRows G k b)
-  unfolding rightRows
-  right-rows-more k a b = refl
 
   -- a row that is chosen is one
   pub choose-below : (k a b : ℕ) (read : ℕ → X) → RowBelow (G .codes) (choose G k a b read)

@@ -4,16 +4,12 @@ use mathlib.Core.Path.{_≡_, refl, sym, _∙_, ap, ap₂}
 use mathlib.Core.List.{List}
 use Prim.Native.Nat.{ℕ, suc, _+_, _*_, _/_, _%_, _<_}
 use lib.Arith.{digits-lt, digits-div, digits-mod}
-use lib.ListN.{getD, set}
+use lib.ListN.{set}
 use Rattle.elimination.specs.Kind.{Kind, worthOf, choose, entry, rightEntry}
 use Rattle.elimination.specs.Table.{reads, rightAt, RightLayer, fillEntry}
 use Rattle.elimination.proofs.Kind.{entry-more, right-entry-more, choose-ext}
 
 module _ {X : Type 0} (G : Kind X) where
-  pub reads-at : (t : List X) (source b c : ℕ) → reads G t source b c ≡ getD t (source + (b * G .codes + c)) (G .start)
-  unfolding reads
-  reads-at t source b c = refl
-
   pub right-at-entry : (k j : ℕ) → rightAt G k j ≡ rightEntry G k (j / G .codes) (j % G .codes)
   unfolding rightAt
   right-at-entry k j = refl

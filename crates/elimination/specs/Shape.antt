@@ -60,6 +60,7 @@ module _ (S : Shape) where
   unfoldable pub rowsChosen : ℕ → ℕ → ℕ
   rowsChosen units mark = cond (eqb mark 2) 0 (S .chosen units)
 
+  -- resuming takes the numbers when both rows are row codes, units fit the mark, and rows and live cells fit the rows chosen
   unfoldable pub numbersFit : Numbers → Bool
   numbersFit n =
       ltb (n .above) (S .codes) &&

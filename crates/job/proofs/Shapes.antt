@@ -10,7 +10,7 @@ use lib.Dec.{ltb, leb}
 use lib.Pow.{pow-pos}
 use Rattle.board.specs.Boards.{maxWidth}
 use Rattle.board.specs.Checks.{tableSize}
-use Rattle.board.proofs.Powers.{four-two, four-pos, four-le, table-four}
+use Rattle.board.proofs.Powers.{four-two, four-pos, four-le, table-one, table-four}
 use Rattle.elimination.specs.Task.{fill, row, isFill}
 use Rattle.elimination.specs.FillThenChoose.{plan}
 use Rattle.elimination.specs.Shape.{ShapeLaws, whole}
@@ -59,12 +59,6 @@ module _ (w h u : ℕ) where
   pub chooses-at : tableSize w h ≤ u → isFill (shapeOf w h .plan u) ≡ false
   chooses-at l = fills-is w h u ∙ le-ltb u (tableSize w h) l
 
-  pub fills-below : isFill (shapeOf w h .plan u) ≡ true → u < tableSize w h
-  fills-below e = ltb-true u (tableSize w h) (sym (fills-is w h u) ∙ e)
-
-  pub chooses-from : isFill (shapeOf w h .plan u) ≡ false → tableSize w h ≤ u
-  chooses-from e = ltb-false u (tableSize w h) (sym (fills-is w h u) ∙ e)
-
   pub chooses-is : leb (tableSize w h) u ≡ not (isFill (shapeOf w h .plan u))
   chooses-is = go (ltb u (tableSize w h)) refl
     where
@@ -97,10 +91,6 @@ unfolding tableSize
 layer-le w q e l = omega (arith, four-le l)
 
 -- ---- and back: what a task says of its unit and its layers
-layer-one : (w : ℕ) → tableSize w 1 ≡ 4 ^ w
-unfolding tableSize
-layer-one w = omega arith
-
 pub record RowAt (w h u r source : ℕ) : Type 0 where
   pub from : tableSize w h ≤ u
   pub rows : r ≡ u - tableSize w h
@@ -116,7 +106,7 @@ row-at w h u r source p = go (ltb u (tableSize w h)) refl
         let q : row (u - tableSize w h) ((u - tableSize w h) * tableSize w 1) ≡ row r source = task-row w h u (tableSize w 1) refl l ∙ p in
         let a : u - tableSize w h ≡ r = cc in
         let b : (u - tableSize w h) * tableSize w 1 ≡ source = cc in
-        record { from = l; rows = sym a; layer = sym b ∙ rw (a, layer-one w) }
+        record { from = l; rows = sym a; layer = sym b ∙ rw (a, table-one w) }
 
 -- a layer ends within the table
 layer-end : (x h q : ℕ) → x < h → x * q + q ≤ h * q
@@ -145,7 +135,7 @@ fill-at w h u k source target j p = go (ltb u (tableSize w h)) refl
     go false e = absurd (true≢false (sym (ap isFill p) ∙ chooses-at w h u (ltb-false u (tableSize w h) e)))
     go true e =
         let l : u < tableSize w h = ltb-true u (tableSize w h) e in
-        let q : fill (u / 4 ^ w) ((h - u / 4 ^ w) * 4 ^ w) ((h - 1 - u / 4 ^ w) * 4 ^ w) (u % 4 ^ w) ≡ fill k source target j = task-fill w h u (4 ^ w) (sym (layer-one w)) l ∙ p in
+        let q : fill (u / 4 ^ w) ((h - u / 4 ^ w) * 4 ^ w) ((h - 1 - u / 4 ^ w) * 4 ^ w) (u % 4 ^ w) ≡ fill k source target j = task-fill w h u (4 ^ w) (sym (table-one w)) l ∙ p in
         let a : u / 4 ^ w ≡ k = cc in
         let b : (h - u / 4 ^ w) * 4 ^ w ≡ source = cc in
         let c : (h - 1 - u / 4 ^ w) * 4 ^ w ≡ target = cc in

@@ -153,7 +153,7 @@ unfoldable pub resumeRule : Checkpoint → Answer
 resumeRule t = refuseUnless (checkpointFits t) 7 then gives (checkpointSays t)
 
 -- ---- a unit
--- The task of the next unit: there is none where the job has ended, its units are spent, or it is no grid's.
+-- The task of the next unit: there is none where the job has ended, its units are spent, or its width or height is past its limit.
 unfoldable pub taskDue : Job → Option Elimination.Task
 taskDue j =
     let S = shapeOf (j .width) (j .height) in
@@ -164,7 +164,7 @@ taskOf (Task.Task.Fill after source target entry) = some (Elimination.fill after
 taskOf (Task.Task.Choose row source) = some (Elimination.row row source)
 taskOf Task.Task.Nothing = none
 
--- the job with these numbers in place of those that its units change
+-- a job's nine numbers with these in place of those that its units change, and the job of them
 abbrev pub numbersWith : Job → Numbers → Checkpoint
 numbersWith j n = record {
   width = j .width;

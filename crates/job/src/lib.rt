@@ -150,7 +150,7 @@ impl Job {
         numbers::numbers_of(self)
     }
 
-    // What the next unit is to do: nothing where the job has ended, its units are spent, or it is no grid's.
+    // What the next unit is to do: nothing where the job has ended, its units are spent, or its width or height is past its limit.
     pub fn task(self) -> Task
         ensures { λ r. ⌜ taskOf r ≡ taskDue self ⌝ }
     {

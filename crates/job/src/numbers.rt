@@ -16,7 +16,7 @@ pub fn table_size(w: usize, h: usize) -> usize
     requires { ⌜ (w ≤ maxWidth) × (h ≤ maxHeight) ⌝ }
     ensures { λ r. ⌜ (r ≡ tableSize w h) × (r ≤ 62914560) ⌝ }
 {
-    h << (2 * w)
+    board::table_size(w, h)
 }
 
 // Whether the units fit the end mark.

@@ -1,4 +1,4 @@
-// What a unit is to do, and the job after it, by what it has done.
+// What a unit is to do, and the job after it.
 use crate::Checkpoint;
 use crate::Chosen;
 use crate::Job;
@@ -9,7 +9,7 @@ ghost use Rattle.board.specs.Boards.{maxWidth, maxHeight};
 ghost use mathlib.Core.Bool.{cond};
 ghost use mathlib.Core.Option.{some};
 ghost use lib.Dec.{ltb};
-ghost use Prim.Native.Nat.{suc, _+_, _≤_, _<_};
+ghost use Prim.Native.Nat.{suc, _+_, _^_, _≤_, _<_};
 ghost use Rattle.board.specs.Checks.{tableSize};
 ghost use Rattle.elimination.specs.Shape.{afterEntry, afterNone};
 ghost use Rattle.job.specs.Jobs.{boardLength, shapeOf, taskOf, numbersIn, numbersOf, jobWith, afterChoice};
@@ -102,7 +102,7 @@ fn after_row(job: Job, r: usize, row: usize, worth: usize) -> Job
 
 // The end mark after the row of h that has r rows above it.
 fn mark_after(h: usize, r: usize) -> usize
-    requires { ⌜ r < 4294967296 ⌝ }
+    requires { ⌜ r < 2 ^ 32 ⌝ }
     ensures { λ x. ⌜ x ≡ cond (ltb (suc r) h) 0 1 ⌝ }
 {
     if r + 1 < h { 0 } else { 1 }

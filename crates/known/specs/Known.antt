@@ -41,6 +41,7 @@ chosenBy n =
     (9 ∷ 9 ∷ [])
     200)
 
+-- the list
 pub record Known : Type 0 where
   -- 1 by 1 free: score 0, 5 units
   pub m1 : solved 1 1 (0 ∷ []) ≡ record { answer = finished 0; units = 5; board = 0 ∷ [] }

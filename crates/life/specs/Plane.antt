@@ -14,7 +14,7 @@ use Rattle.rule.specs.declared.Rule.{Rule}
 abbrev pub Plane : Type 0
 Plane = ℤ → ℤ → ℕ
 
--- a board of w × h cells in reading order, on the plane
+-- a board of w × h cells in reading order, on the plane; rows 0 and h + 1, columns 0 and w + 1 are the dead ring
 unfoldable pub onPlane : ℕ → ℕ → List ℕ → Plane
 onPlane w h cells (pos r) (pos c) = cond (among h r && among w c) (getD cells ((r - 1) * w + (c - 1)) 0) 0
 onPlane w h cells (pos r) (negsuc c) = 0

@@ -37,7 +37,7 @@ pub record AnswersText (text givens table board output : List ℕ) (n : ℕ) (gi
   pub inside : n ≤ length output
 
 -- In memory of the program's sizes a text is answered. In any other nothing is written, and the count is 0.
-pub record Answers (text givens table board output : List ℕ) (n : ℕ) (givens′ table′ board′ output′ : List ℕ) : Type 0 where
+pub record AnswersAny (text givens table board output : List ℕ) (n : ℕ) (givens′ table′ board′ output′ : List ℕ) : Type 0 where
   pub answered : programSizes (length givens) (length table) (length board) (length output) ≡ true
       → AnswersText text givens table board output n givens′ table′ board′ output′
   pub otherwise : programSizes (length givens) (length table) (length board) (length output) ≡ false

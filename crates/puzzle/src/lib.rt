@@ -6,7 +6,7 @@ ghost use lib.ListN.{length};
 ghost use Rattle.board.specs.Boards.{Board};
 ghost use Rattle.puzzle.specs.Sizes.{outputRoom, programSizes};
 ghost use Rattle.puzzle.specs.Texts.{givenOf};
-ghost use Rattle.puzzle.specs.Answering.{SolvesGrid, AnswersText, Answers};
+ghost use Rattle.puzzle.specs.Answering.{SolvesGrid, AnswersText, AnswersAny};
 use board::Refusal;
 use plaintext::Read;
 use runner::Solved;
@@ -34,7 +34,7 @@ pub fn answer(
     board: &mut [u8],
     output: &mut [u8],
 ) -> usize
-    ensures { λ n. ⌜ Answers (now (text .entry)) (now (givens .entry)) (now (table .entry)) (now (board .entry)) (now (output .entry)) n (now (givens .exit)) (now (table .exit)) (now (board .exit)) (now (output .exit)) ⌝ }
+    ensures { λ n. ⌜ AnswersAny (now (text .entry)) (now (givens .entry)) (now (table .entry)) (now (board .entry)) (now (output .entry)) n (now (givens .exit)) (now (table .exit)) (now (board .exit)) (now (output .exit)) ⌝ }
 {
     if has_sizes(givens.len(), table.len(), board.len(), output.len()) {
         answer_text(text, givens, table, board, output)

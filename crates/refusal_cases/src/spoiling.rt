@@ -1,4 +1,4 @@
-// A spoiled table on a grid of 2 by 3: the only entry that counts is row 3's below row 3, of layer 2. Row 2 can be chosen, row 3 cannot.
+// A spoiled table on a grid of 2 by 3: the only entry that counts is (2, 3, 3). Row 2 can be chosen, row 3 cannot.
 use crate::workings;
 use job::Job;
 use job::Stage;

@@ -34,7 +34,7 @@ ruleFits rule = eqb (rule .births % 2) 0 && leb (rule .births) 511 && leb (rule 
 unfoldable pub ruleCheck : Rule → Answer
 ruleCheck rule = refuseUnless (ruleFits rule) 13
 
--- stepping and judging begin with 1, 2, 13
+-- opening, stepping and judging begin with 1, 2, 13
 unfoldable pub gridCheck : Rule → ℕ → ℕ → Answer
 gridCheck rule w h = sizeCheck w h then ruleCheck rule
 

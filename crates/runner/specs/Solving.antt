@@ -21,10 +21,11 @@ solvedSays (Solved.Best score) = finished score
 solvedSays Solved.Infeasible = infeasible
 solvedSays (Solved.Refused r) = refusalSays r
 
--- its checks: 1, 2, 13, 3, 4 as opening, 5, 6 as working
+-- the checks of the memory, as working makes them: 5, 6
 unfoldable pub memoryCheck : ℕ → ℕ → List ℕ → List ℕ → Answer
 memoryCheck w h table board = lengthCheck 5 w h board then tableCheck w h table
 
+-- its checks: 1, 2, 13, 3, 4 as opening, then those
 unfoldable pub solveCheck : Rule → ℕ → ℕ → List ℕ → List ℕ → List ℕ → Answer
 solveCheck rule w h givens table board = gridCheck rule w h then readCheck w h givens then memoryCheck w h table board
 

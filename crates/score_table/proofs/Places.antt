@@ -2,17 +2,16 @@
 -- Assumes nothing.
 use mathlib.Core.Path.{_≡_, sym, _∙_}
 use mathlib.Core.Bool.{Bool, true, false, cond}
-use Prim.Native.Nat.{ℕ, _+_, _*_, _-_, _/_, _%_, _^_, _<_}
+use Prim.Native.Nat.{ℕ, _+_, _*_, _-_, _/_, _%_, _^_}
 use native.Mathlib.Nat.{div-add-mod'}
 use native.Mathlib.Omega.{arith}
 use lib.Dec.{ltb}
 use Rattle.elimination.specs.FillThenChoose as Whole
-use Rattle.elimination.proofs.FillThenChoose.{place-digits, place-lt}
-use Rattle.board.specs.Checks.{tableSize}
+use Rattle.elimination.proofs.FillThenChoose.{place-digits}
 use Rattle.elimination.specs.Task.{row}
 use Rattle.elimination.specs.FillThenChoose.{fillAt, plan}
 use Rattle.score_table.specs.ScoreTable.{entryPlace, unitPlace, InPlace, PlacesRight}
-use Rattle.board.proofs.Powers.{four-two, table-four}
+use Rattle.board.proofs.Powers.{four-two}
 
 -- the place that a unit writes, by its layer and its place there
 pub unit-place : (w h u : ℕ) → unitPlace w h u ≡ (h - 1 - u / 4 ^ w) * 4 ^ w + u % 4 ^ w
@@ -25,9 +24,6 @@ unit-place w h u =
 
 pub place-same : (w h u : ℕ) → unitPlace w h u ≡ Whole.place h (2 ^ w * 2 ^ w) u
 place-same w h u = unit-place w h u ∙ rw (four-two w) (sym (place-digits h (2 ^ w * 2 ^ w) u))
-
-pub unit-place-lt : (w h u : ℕ) → u < tableSize w h → unitPlace w h u < tableSize w h
-unit-place-lt w h u l = rw (place-same w h u, table-four w h) (place-lt h (2 ^ w * 2 ^ w) u (rw (table-four w h) at l))
 
 -- ---- the tasks of a grid's plan lie where document 01 has the entries
 pub places-right : PlacesRight

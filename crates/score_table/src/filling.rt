@@ -20,7 +20,7 @@ pub fn layer_size(w: usize) -> usize
     requires { ⌜ w ≤ maxWidth ⌝ }
     ensures { λ r. ⌜ (r ≡ layerSize w) × (0 < r) × (r ≤ 1048576) ⌝ }
 {
-    1 << (2 * w)
+    board::table_size(w, 1)
 }
 
 // The number of entry j of the layer with k rows after it, over the numbers that the table holds in the layer that starts at `source`.

@@ -28,7 +28,7 @@ pub enum Picked {
     Row { row: usize, worth: usize },
 }
 
-// What is wanted of a grid: the most live cells, of 10 by 60 at most; among equals the smallest row.
+// What is wanted of a grid: the most free live cells, 600 at most; among equals the smallest row.
 pub fn most_live() -> Want
     ensures { λ r. ⌜ r ≡ mostLive ⌝ }
 {

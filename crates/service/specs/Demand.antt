@@ -29,7 +29,7 @@ module _ {T : Type 0} where
   afterResume (gives values) t s = record { job = jobOf t; table = s .table; board = s .board }
   afterResume (refuses n values) t s = s
 
--- the sum of the allowances; those turned away aren't summed
+-- an allowance that is turned away isn't summed
 abbrev pub counted : Answer → ℕ → ℕ
 counted (gives values) allowance = allowance
 counted (refuses n values) allowance = 0
@@ -42,6 +42,7 @@ module _ (S : Service) where
   afterCall pause s = s
   afterCall (resume t) s = afterResume (resumeRule t) t s
 
+  -- after a list of calls
   unfoldable pub run : List (Call S) → State (S .Table) → State (S .Table)
   run [] s = s
   run (c ∷ cs) s = run cs (afterCall c s)
@@ -64,6 +65,7 @@ module _ (S : Service) where
   allowed pause s = 0
   allowed (resume t) s = 0
 
+  -- the sum of the allowances that passed
   unfoldable pub summed : List (Call S) → State (S .Table) → ℕ
   summed [] s = 0
   summed (c ∷ cs) s = allowed c s + summed cs (afterCall c s)

@@ -73,6 +73,7 @@ module _ (S : Service) where
   workBy (gives values) given allowance s = worksOn given allowance s
   workBy (refuses n values) given allowance s = record { answer = refuses n values; state = s }
 
+  -- a working call
   unfoldable pub workOf : Job → S .Given → S .Table → List ℕ → ℕ → Result (S .Table)
   workOf j given table board allowance =
       workBy (workCheck j given table board) given allowance (record { job = j; table = table; board = board })

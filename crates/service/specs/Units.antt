@@ -45,6 +45,7 @@ module _ (J : Setup ℕ (List ℕ)) where
   markStep zero task s = taskStep task s
   markStep (suc m) task s = next s
 
+  -- one unit
   unfoldable pub unitBy : State (List ℕ) → Step (List ℕ)
   unitBy s = markStep (markOf (s .job .stage)) (J .plan (s .job .units)) s
 

@@ -1,4 +1,4 @@
--- The theorems of `specs/Theorems`, proved; the third demand is in `Third`, the round trip in `Fits`.
+-- The theorems of `specs/Theorems`, proved; the third demand is in `Third`, the round trip in `Fits` of `job`.
 -- Assumes nothing.
 use mathlib.Core.Path.{_≡_, refl, sym, _∙_, ap}
 use mathlib.Core.Bool.{false, cond}

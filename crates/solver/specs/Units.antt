@@ -28,6 +28,7 @@ putRow w r c board = written w c board (r * w) w
 abbrev pub setupOf : Rule → ℕ → ℕ → List ℕ → Setup ℕ (List ℕ)
 setupOf rule w h givens = fillThenChoose (kindOf (nextUnder rule) w h givens) h (putRow w)
 
+-- one unit
 unfoldable pub unitOf : List ℕ → State → Step
 unitOf givens s = unitBy (setupOf (s .job .rule) (s .job .width) (s .job .height) givens) s
 
