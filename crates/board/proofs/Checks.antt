@@ -26,7 +26,7 @@ sized w h e =
 
 pub size-passes : {w h : ℕ} → Sized w h → sizeCheck w h ≡ passed
 unfolding sizeCheck
-size-passes {w} {h} s = rw (among-yes 10 w (s .some-column) (s .narrow), among-yes 60 h (s .some-row) (s .low))
+size-passes {w} {h} s = rw (among-yes maxWidth w (s .some-column) (s .narrow), among-yes maxHeight h (s .some-row) (s .low))
 
 -- ---- the bytes: their length, then each of them
 module _ (n m most w h : ℕ) (bytes : List ℕ) where

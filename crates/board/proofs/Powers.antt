@@ -41,7 +41,7 @@ table-one w = omega arith
 
 pub table-le : {w h : ℕ} → w ≤ maxWidth → h ≤ maxHeight → tableSize w h ≤ 62914560
 unfolding tableSize
-table-le {w} {h} l m = let b : h * 4 ^ w ≤ 60 * 1048576 = mul-le-mul m (four-le l) in omega arith
+table-le {w} {h} l m = let b : h * 4 ^ w ≤ maxHeight * 1048576 = mul-le-mul m (four-le l) in omega arith
 
 pub table-shift : {w h : ℕ} → w ≤ maxWidth → h ≤ maxHeight → h * 2 ^ (2 * w) % 2 ^ 64 ≡ tableSize w h
 unfolding tableSize

@@ -16,6 +16,9 @@ pub and-right : (s t : Bool) → s && t ≡ true → t ≡ true
 and-right true t e = e
 and-right false t e = absurd (true≢false (sym e))
 
+pub and-true : {s t : Bool} → s ≡ true → t ≡ true → s && t ≡ true
+and-true p q = rw (p, q)
+
 pub among-yes : (n i : ℕ) → 0 < i → i ≤ n → among n i ≡ true
 among-yes n i p q = rw (le-leb 1 i p, le-leb i n q)
 

@@ -145,7 +145,7 @@ elimination-solves G h L k a b fits = go (solved-valid G L k a b fits)
     go (validNone f p q) = noEnding f p q
     go (validEnding T v) = anEnding T
 
--- the right entry counts where there is an ending, and is the number for none exactly where there is none
+-- the right entry counts where there is an ending
 module _ {X : Type 0} (G : Kind X) {h : ℕ} (L : Laws G h) (k a b : ℕ) (fits : k ≤ h) where
   pub ending-counts : (ds : List ℕ) → Ending G k a b ds → G .counts (rightEntry G k a b) ≡ true
   ending-counts ds e = go (solved-valid G L k a b fits)
@@ -153,13 +153,3 @@ module _ {X : Type 0} (G : Kind X) {h : ℕ} (L : Laws G h) (k a b : ℕ) (fits 
       go : SolvedValid G L k a b (rightEntry G k a b) (rightRows G k a b) → G .counts (rightEntry G k a b) ≡ true
       go (validNone f p q) = absurd (f ds e)
       go (validEnding T v) = L .valid-counts k a b (rightRows G k a b) (rightEntry G k a b) fits (T .lawful) (T .worth) v
-
-  pub absent-no-ending : rightEntry G k a b ≡ G .absent → NoEnding G k a b
-  absent-no-ending e ds d = true≢false (sym (ending-counts ds d) ∙ ap (G .counts) e ∙ L .absent-not-counted)
-
-  pub no-ending-absent : NoEnding G k a b → rightEntry G k a b ≡ G .absent
-  no-ending-absent f = go (elimination-solves G h L k a b fits)
-    where
-      go : Solved G k a b (rightEntry G k a b) (rightRows G k a b) → rightEntry G k a b ≡ G .absent
-      go (noEnding f' p q) = p
-      go (anEnding T) = absurd (f (rightRows G k a b) (T .lawful))

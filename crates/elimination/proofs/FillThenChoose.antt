@@ -13,7 +13,7 @@ use Rattle.elimination.specs.Table.{layerSize}
 use Rattle.elimination.specs.Task.{Task, fill, row, isFill}
 use Rattle.elimination.specs.Plan.{Scheduled}
 use Rattle.elimination.specs.Places.{writes, Stands, Orderly}
-use Rattle.elimination.specs.FillThenChoose.{fillAt, place, chooseAt, plan, startOf, workOf, schedule, Lengths, fillThenChoose, FillThenChooseCompletes}
+use Rattle.elimination.specs.FillThenChoose.{fillAt, place, chooseAt, plan, startOf, fillsBefore, schedule, Lengths, fillThenChoose, FillThenChooseCompletes}
 use Rattle.elimination.proofs.Numbers.{lt-or-ge}
 use Rattle.elimination.proofs.Task.{row-not-fill}
 use Rattle.elimination.proofs.Places.{orderly-sound}
@@ -140,15 +140,15 @@ module _ (h q : ℕ) where
         (lt-or-ge u (h * q))
 
   -- ---- the schedule
-  next : (r : ℕ) → startOf h q (suc r) ≡ suc (startOf h q r + workOf h q r)
+  next : (r : ℕ) → startOf h q (suc r) ≡ suc (startOf h q r + fillsBefore h q r)
   next zero = omega arith
   next (suc r) = omega arith
 
-  fills : (r m : ℕ) → r < h → m < workOf h q r → isFill (plan h q (startOf h q r + m)) ≡ true
+  fills : (r m : ℕ) → r < h → m < fillsBefore h q r → isFill (plan h q (startOf h q r + m)) ≡ true
   fills zero m hr l = rw (zero-add m, plan-fill h q m l)
   fills (suc r) m hr l = absurd (not-suc-le-zero l)
 
-  chooses : (r : ℕ) → r < h → plan h q (startOf h q r + workOf h q r) ≡ row r (r * q)
+  chooses : (r : ℕ) → r < h → plan h q (startOf h q r + fillsBefore h q r) ≡ row r (r * q)
   chooses zero hr = rw zero-add (rw add-zero at (plan-row h q 0))
   chooses (suc r) hr = rw add-zero (plan-row h q (suc r))
 

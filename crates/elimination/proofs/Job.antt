@@ -6,9 +6,7 @@ use Prim.Native.Nat.{ℕ, suc, _-_}
 use Rattle.elimination.specs.Kind.{choose}
 use Rattle.elimination.specs.Table.{reads}
 use Rattle.elimination.specs.Task.{Task, fill, row, isFill, fillTask}
-use Rattle.elimination.specs.Machine.{advance}
-use Rattle.elimination.specs.Job.{Mark, running, finished, infeasible, State, Setup, endMark, ended, takeRow, act, actIf, unit, machine, EndedStays}
-use Rattle.elimination.proofs.Machine.{advance-still}
+use Rattle.elimination.specs.Job.{Mark, running, finished, infeasible, State, Setup, endMark, takeRow, act, actIf, unit, EndedStays}
 
 module _ {X B : Type 0} (J : Setup X B) where
   -- an ended job stays as it is
@@ -20,9 +18,6 @@ module _ {X B : Type 0} (J : Setup X B) where
       go running e = absurd (true≢false (sym e))
       go finished e = refl
       go infeasible e = refl
-
-  pub advance-ended : (m : ℕ) (s : State X B) → ended s ≡ true → advance (machine J) m s ≡ s
-  advance-ended m s e = advance-still (machine J) m s (unit-ended s e)
 
   pub unit-running : (s : State X B) → s .mark ≡ running → unit J s ≡ act J (J .plan (s .units)) s
   unfolding unit

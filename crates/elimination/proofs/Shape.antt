@@ -8,6 +8,7 @@ use native.Mathlib.Nat.{mul-le-mul, zero-add, add-sub-cancel-left}
 use native.Mathlib.Omega.{arith}
 use borrow.Author.Tests.{ltb-true, ltb-false, leb-true, eqb-true, lt-ltb, le-leb, lt-leb, eq-eqb, ne-eqb}
 use lib.Dec.{eqb, leb, ltb}
+use Rattle.board.proofs.Tests.{and-left, and-right, and-true}
 use Rattle.elimination.specs.Task.{Task, fill, row}
 use Rattle.elimination.specs.FillThenChoose as Whole
 use Rattle.elimination.specs.TwoLayers as Two
@@ -19,17 +20,6 @@ use Rattle.elimination.proofs.Places.{row-before}
 use Rattle.elimination.proofs.TwoLayers as Twos
 
 -- ---- tests as facts
-and-left : (s t : Bool) → s && t ≡ true → s ≡ true
-and-left true t e = refl
-and-left false t e = absurd (true≢false (sym e))
-
-and-right : (s t : Bool) → s && t ≡ true → t ≡ true
-and-right true t e = e
-and-right false t e = absurd (true≢false (sym e))
-
-and-true : {s t : Bool} → s ≡ true → t ≡ true → s && t ≡ true
-and-true p q = rw (p, q)
-
 when-of : (t x : Bool) → (t ≡ true → x ≡ true) → cond t x true ≡ true
 when-of true x f = f refl
 when-of false x f = refl

@@ -37,13 +37,13 @@ startOf h q zero = 0
 startOf h q (suc r) = h * q + suc r
 
 -- the entries filled before row r is chosen: all of them before row 0
-abbrev pub workOf : ℕ → ℕ → ℕ → ℕ
-workOf h q zero = h * q
-workOf h q (suc r) = 0
+abbrev pub fillsBefore : ℕ → ℕ → ℕ → ℕ
+fillsBefore h q zero = h * q
+fillsBefore h q (suc r) = 0
 
 -- the plan's course: row r's layer starts at r times q
 abbrev pub schedule : ℕ → ℕ → Schedule
-schedule h q = record { start = startOf h q; work = workOf h q; source = λ r. r * q }
+schedule h q = record { start = startOf h q; work = fillsBefore h q; source = λ r. r * q }
 
 -- a job's length: where there is a board, and where there is none
 pub record Lengths (h q : ℕ) : Type 0 where

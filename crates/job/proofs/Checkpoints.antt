@@ -8,6 +8,7 @@ use native.Mathlib.Nat.{div-eq-of-lt, lt-div-mul-add}
 use native.Mathlib.Omega.{arith}
 use native.Mathlib.Decide.{decLt}
 use lib.Pow.{pow-pos}
+use Rattle.board.proofs.Tests.{and-true}
 use Rattle.board.specs.Answers.{refuses, refuseUnless, _then_}
 use Rattle.board.specs.Boards.{maxWidth, maxHeight, among}
 use Rattle.board.specs.Checks.{sizeCheck}
@@ -19,7 +20,7 @@ use Rattle.rule.specs.declared.Rule.{Rule}
 use Rattle.job.specs.Jobs.{shapeOf, checkpointFits, numbersOf, stageFits, jobFits, stageOf, jobOf, jobSays, checkpointSays}
 use Rattle.job.specs.declared.Checkpoint.{Checkpoint}
 use Rattle.job.proofs.Shapes.{board-long}
-use Rattle.job.proofs.Fits.{numbers-at, and-true, heard}
+use Rattle.job.proofs.Fits.{numbers-at, heard}
 
 -- ---- the size and the rule
 pub frame-misfits : (rule : Rule) (w h : ℕ) {n : ℕ} {vs : List ℕ} → gridCheck rule w h ≡ refuses n vs → among maxWidth w && among maxHeight h && ruleFits rule ≡ false

@@ -1,7 +1,7 @@
 -- Which numbers resuming takes and which jobs pausing and working take, as facts; and that the job resumed is the one paused.
 -- Assumes nothing.
 use mathlib.Core.Path.{_≡_, refl, sym, _∙_, ap}
-use mathlib.Core.Bool.{Bool, true, _&&_}
+use mathlib.Core.Bool.{true, _&&_}
 use mathlib.Core.List.{List}
 use Prim.Native.Nat.{ℕ}
 use native.Mathlib.Omega.{arith}
@@ -11,7 +11,7 @@ use lib.Pow.{pow-pos}
 use Rattle.board.specs.Answers.{Answer, gives, refuses, refuseUnless}
 use Rattle.board.specs.Boards.{maxWidth, maxHeight, among, Sized}
 use Rattle.board.proofs.Answers.{refuses-none, then-gives, unless-gives}
-use Rattle.board.proofs.Tests.{and-left, and-right, among-yes, among-in}
+use Rattle.board.proofs.Tests.{and-left, and-right, and-true, among-yes, among-in}
 use Rattle.elimination.specs.Task.{isFill}
 use Rattle.elimination.specs.Shape.{numbersFit}
 use Rattle.elimination.proofs.Shape.{NumbersAre, numbers-start}
@@ -26,9 +26,6 @@ use Rattle.job.specs.declared.Job.{Job}
 use Rattle.job.specs.declared.Checkpoint.{Checkpoint}
 use Rattle.job.specs.declared.JobResult.{JobResult}
 use Rattle.job.proofs.Shapes.{shape-lawful, board-long, table-pos, fills-at}
-
-pub and-true : {s t : Bool} → s ≡ true → t ≡ true → s && t ≡ true
-and-true p q = rw (p, q)
 
 -- ---- the nine numbers
 -- a size and a rule that opening takes

@@ -17,22 +17,22 @@ use Rattle.service.specs.Service.{Result, finished, infeasible, workOf}
 use Rattle.solver.specs.Units.{grid}
 
 -- what a working call comes to: its answer, the units done, and the board
-pub record Ending : Type 0 where
+pub record CallEnd : Type 0 where
   pub answer : Answer
   pub units : ℕ
   pub board : List ℕ
 
-abbrev pub endingOf : Result (List ℕ) → Ending
-endingOf r = record { answer = r .answer; units = r .state .job .units; board = r .state .board }
+abbrev pub callEnd : Result (List ℕ) → CallEnd
+callEnd r = record { answer = r .answer; units = r .state .job .units; board = r .state .board }
 
 -- one working call with more allowance than the job has units, over a table of 7s and a board of 9s
-unfoldable pub solved : ℕ → ℕ → List ℕ → Ending
-solved w h givens = endingOf (workOf grid (start conwayRule w h) givens (replicate (tableSize w h) 7) (replicate (w * h) 9) 200)
+unfoldable pub solved : ℕ → ℕ → List ℕ → CallEnd
+solved w h givens = callEnd (workOf grid (start conwayRule w h) givens (replicate (tableSize w h) 7) (replicate (w * h) 9) 200)
 
 -- width 1, height 2, free, the table filled and no row chosen yet: one such call, where layer 1 is right, and layer 2 holds n for rows 0, 0 and none for others
-unfoldable pub chosenBy : ℕ → Ending
+unfoldable pub chosenBy : ℕ → CallEnd
 chosenBy n =
-    endingOf
+    callEnd
     (workOf
     grid
     (record { rule = conwayRule; width = 1; height = 2; units = 8; stage = Stage.Choosing 0 0 0 })

@@ -83,6 +83,10 @@ fn steps_refused() {
     step(b"step, 3 cells of 4", rule::conway(), 2, 2, 3, 0b111, 15);
     step(b"step, 5 cells of 4", rule::conway(), 2, 2, 5, 0b111, 15);
     report::check(
+        b"step, cells 0, 1, 2 of 4",
+        life::step(rule::conway(), 2, 2, &[0, 1, 2], &mut [9; 15]),
+    );
+    report::check(
         b"step, cells 0, 1, 2, 3",
         life::step(rule::conway(), 2, 2, &[0, 1, 2, 3], &mut [9; 15]),
     );
@@ -123,6 +127,10 @@ fn judgements_refused() {
     judge(b"judge, births on 0, 3 cells of 4", barred(), 2, 2, 3, 0);
     judge(b"judge, 3 cells of 4", rule::conway(), 2, 2, 3, 0);
     judge(b"judge, 5 cells of 4", rule::conway(), 2, 2, 5, 0);
+    verdict(
+        b"judge, cells 0, 255, 1 of 4",
+        life::judge(rule::conway(), 2, 2, &[0, 255, 1]),
+    );
     verdict(
         b"judge, cells 0, 255, 1, 2",
         life::judge(rule::conway(), 2, 2, &[0, 255, 1, 2]),

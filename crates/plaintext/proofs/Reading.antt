@@ -14,7 +14,7 @@ use lib.ListN.{length, getD, take, drop, length-append, length-drop, List·getD-
 use lib.Seq.{take-at, getD-take, getD-drop, getD-append-add}
 use Rattle.board.specs.Search.{firstNot}
 use Rattle.board.specs.Answers.{gives, refuses, refuseUnless, refuseAt, _then_}
-use Rattle.board.specs.Boards.{among, Sized}
+use Rattle.board.specs.Boards.{among, Sized, maxWidth, maxHeight}
 use Rattle.board.specs.Checks.{widthCheck, heightCheck}
 use Rattle.board.proofs.Search.{Searched, searched, fails-at}
 use Rattle.board.proofs.Answers.{then-gives}
@@ -159,7 +159,7 @@ bad-in (l ∷ ls) c at p e = go l ls c at p (judge at l) refl e (bad-in ls (c .2
 -- an answer 8 comes from the first bad byte
 letter-only : (o : Option ℕ) (rows : List (List ℕ)) (room p : ℕ) → refuses 8 (p ∷ []) ≡ (refuseAt o 8 then sizeRule rows room) → o ≡ some p
 unfolding sizeRule
-letter-only none rows room p e = absurd (go (among 60 (length rows)) (among 10 (widthOf rows)) (leb (widthOf rows * length rows) room) (widthOf rows ∷ length rows ∷ []) e)
+letter-only none rows room p e = absurd (go (among maxHeight (length rows)) (among maxWidth (widthOf rows)) (leb (widthOf rows * length rows) room) (widthOf rows ∷ length rows ∷ []) e)
   where
     go : (s t u : Bool) (vs : List ℕ) → refuses 8 (p ∷ []) ≡ (refuseUnless s 2 then refuseUnless t 1 then refuseUnless u 5 then gives vs) → ⊥
     go true true true vs e = let z : _≡_ {A = ℕ} 0 1 = cc in zero-ne-one z

@@ -14,24 +14,24 @@ use lib.Seq.{take-at, drop-at, set-at, drop-cons, append-snoc}
 use Rattle.writer.proofs.Over.{over, over-all, rest-whole, lent-block}
 use Rattle.writer.specs.Letters.{LF}
 use Rattle.writer.specs.Writing.{boardRows, rowText, boardText}
-use Rattle.puzzle.specs.Printing.{digit, digits, decimal, line, Examples, Prints}
+use Rattle.puzzle.specs.Printing.{digitByte, digits, decimal, line, Examples, Prints}
 
 pub examples : Examples
 unfolding digits boardText boardRows rowText flatMap
 examples = (refl, refl, refl, refl)
 
 -- ---- a number's digits
-digits-one : (k n : ℕ) → n < 10 → digits k n ≡ digit n ∷ []
+digits-one : (k n : ℕ) → n < 10 → digits k n ≡ digitByte n ∷ []
 unfolding digits
 digits-one zero n l = refl
 digits-one (suc k) n l = rw (lt-ltb n 10 l)
 
-decimal-two : (n : ℕ) → 10 ≤ n → n < 100 → decimal n ≡ digit (n / 10) ∷ digit n ∷ []
+decimal-two : (n : ℕ) → 10 ≤ n → n < 100 → decimal n ≡ digitByte (n / 10) ∷ digitByte n ∷ []
 unfolding digits
 decimal-two zero m l = absurd (omega arith)
 decimal-two (suc k) m l = let t : suc k / 10 < 10 = omega arith in rw (le-ltb (suc k) 10 m, digits-one k (suc k / 10) t)
 
-decimal-three : (n : ℕ) → 100 ≤ n → n < 1000 → decimal n ≡ digit (n / 10 / 10) ∷ digit (n / 10) ∷ digit n ∷ []
+decimal-three : (n : ℕ) → 100 ≤ n → n < 1000 → decimal n ≡ digitByte (n / 10 / 10) ∷ digitByte (n / 10) ∷ digitByte n ∷ []
 unfolding digits
 decimal-three zero m l = absurd (omega arith)
 decimal-three (suc zero) m l = absurd (omega arith)
@@ -70,14 +70,14 @@ set-three (x ∷ y ∷ []) a b c r = absurd (omega arith)
 set-three (x ∷ y ∷ z ∷ l) a b c r = refl
 
 module _ (n : ℕ) (old : List ℕ) (room : 3 ≤ length old) where
-  pub prints-one : {a : ℕ} → n < 10 → a ≡ digit n → Prints (decimal n) old 1 (set old 0 a)
-  prints-one {a} l e = rw (e, digits-one n n l) record { count = refl; bytes = set-one old (digit n) (omega arith) }
+  pub prints-one : {a : ℕ} → n < 10 → a ≡ digitByte n → Prints (decimal n) old 1 (set old 0 a)
+  prints-one {a} l e = rw (e, digits-one n n l) record { count = refl; bytes = set-one old (digitByte n) (omega arith) }
 
-  pub prints-two : {a b : ℕ} → 10 ≤ n → n < 100 → a ≡ digit (n / 10) → b ≡ digit n → Prints (decimal n) old 2 (set (set old 0 a) 1 b)
-  prints-two m l e f = rw (e, f, decimal-two n m l) record { count = refl; bytes = set-two old (digit (n / 10)) (digit n) (omega arith) }
+  pub prints-two : {a b : ℕ} → 10 ≤ n → n < 100 → a ≡ digitByte (n / 10) → b ≡ digitByte n → Prints (decimal n) old 2 (set (set old 0 a) 1 b)
+  prints-two m l e f = rw (e, f, decimal-two n m l) record { count = refl; bytes = set-two old (digitByte (n / 10)) (digitByte n) (omega arith) }
 
-  pub prints-three : {a b c : ℕ} → 100 ≤ n → n < 1000 → a ≡ digit (n / 10 / 10) → b ≡ digit (n / 10) → c ≡ digit n → Prints (decimal n) old 3 (set (set (set old 0 a) 1 b) 2 c)
-  prints-three m l e f g = rw (e, f, g, decimal-three n m l) record { count = refl; bytes = set-three old (digit (n / 10 / 10)) (digit (n / 10)) (digit n) room }
+  pub prints-three : {a b c : ℕ} → 100 ≤ n → n < 1000 → a ≡ digitByte (n / 10 / 10) → b ≡ digitByte (n / 10) → c ≡ digitByte n → Prints (decimal n) old 3 (set (set (set old 0 a) 1 b) 2 c)
+  prints-three m l e f g = rw (e, f, g, decimal-three n m l) record { count = refl; bytes = set-three old (digitByte (n / 10 / 10)) (digitByte (n / 10)) (digitByte n) room }
 
 -- ---- pieces one after the other
 -- a text that is printed, and then one byte more

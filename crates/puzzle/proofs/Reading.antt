@@ -92,7 +92,7 @@ module _ {text cells cells′ : List ℕ} {v : Read.Read} (short : length text �
     read-board = boarded w h _ (reads-a-board text 0 cells cells′ w h (rw e at R))
 
     -- its cells fit the buffers
-    pub read-small : w * h ≤ 600
+    pub read-small : w * h ≤ cellRoom
     read-small = mul-le-mul (read-board .size .narrow) (read-board .size .low)
 
     read-text : take (w * h) cells′ ≡ textCells text

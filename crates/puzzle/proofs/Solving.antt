@@ -19,7 +19,7 @@ use Rattle.score_table.specs.Rows.{cellWorth}
 use Rattle.job.specs.Jobs.{readCheck}
 use Rattle.service.specs.Service.{finished, infeasible}
 use Rattle.solver.specs.Grid.{score}
-use Rattle.runner.specs.Solving.{memoryCheck, solveCheck, solvedSays, Ends, best, none, Comes, Solves}
+use Rattle.runner.specs.Solving.{memoryCheck, solveCheck, solvedSays, Ends, best, none, SolvesTo, Solves}
 use Rattle.runner.specs.declared.Solved as Solved
 use Rattle.puzzle.specs.Printing.{Prints}
 use Rattle.puzzle.specs.Answering.{printed, SolvesGrid}
@@ -72,7 +72,7 @@ ends-scored : {w h : ℕ} {g β β′ : List ℕ} {n : ℕ} → Ends conwayRule 
 ends-scored {w} {h} {g} {β′ = β′} {n = n} (best o e) = let q : n ≡ score w h g β′ = cc e in record { grid = o .solution .grid; low = rw q (score-le g (o .solution .grid)) }
 ends-scored (none n e k) = absurd (apart e)
 
-module _ {w h : ℕ} {g t β t′ β′ : List ℕ} {n : ℕ} (c : Comes (solveCheck conwayRule w h g t β) conwayRule w h g t β (finished n) t′ β′) where
+module _ {w h : ℕ} {g t β t′ β′ : List ℕ} {n : ℕ} (c : SolvesTo (solveCheck conwayRule w h g t β) conwayRule w h g t β (finished n) t′ β′) where
   comes-scored : Scored w h β′ n
   comes-scored = go (solveCheck conwayRule w h g t β) refl
     where

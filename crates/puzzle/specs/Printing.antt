@@ -11,13 +11,13 @@ use Rattle.writer.specs.Letters.{LF, bang, bigO}
 use Rattle.writer.specs.Writing.{boardText}
 
 -- the byte of a number's last digit
-abbrev pub digit : ℕ → ℕ
-digit n = 48 + n % 10
+abbrev pub digitByte : ℕ → ℕ
+digitByte n = 48 + n % 10
 
 -- the digits of a number, with at most so many in front of the last: those of its tenth, where there is one, and the last
 unfoldable pub digits : ℕ → ℕ → List ℕ
-digits zero n = digit n ∷ []
-digits (suc k) n = cond (ltb n 10) [] (digits k (n / 10)) ++ (digit n ∷ [])
+digits zero n = digitByte n ∷ []
+digits (suc k) n = cond (ltb n 10) [] (digits k (n / 10)) ++ (digitByte n ∷ [])
 
 -- a number in decimal. It has at most n digits in front of the last
 abbrev pub decimal : ℕ → List ℕ

@@ -1,12 +1,11 @@
 // What is printed, piece by piece, at the start of the output.
 ghost use mathlib.Core.Path.{_≡_};
-ghost use mathlib.Core.List.{_++_};
 ghost use Prim.Native.Nat.{_+_, _≤_, _<_};
 ghost use lib.ListN.{length};
 ghost use Rattle.board.specs.Boards.{Board};
 ghost use Rattle.board.specs.Answers.{numberOf};
 ghost use Rattle.puzzle.specs.Sizes.{outputRoom};
-ghost use Rattle.puzzle.specs.Printing.{digit as lastDigit, decimal, line, refusedLine, bestText, Prints};
+ghost use Rattle.puzzle.specs.Printing.{digitByte, decimal, line, refusedLine, bestText, Prints};
 use board::Refusal;
 use writer::Written;
 
@@ -75,7 +74,7 @@ fn put_number(number: usize, output: &mut [u8]) -> usize
 
 // The last digit of a number.
 fn digit(number: usize) -> u8
-    ensures { λ r. ⌜ r ≡ lastDigit number ⌝ }
+    ensures { λ r. ⌜ r ≡ digitByte number ⌝ }
 {
     b'0' + (number % 10) as u8
 }

@@ -28,24 +28,29 @@ fn try_text(name: &[u8], w: usize, h: usize, text: &[u8]) {
     );
 }
 
-// A table with one entry too few, and an output with one byte too many.
-pub fn other_memory() {
-    let mut givens = [9u8; puzzle::CELLS];
+// A table with one entry too few.
+pub fn short_table() {
     let mut table = [700u16; 32767];
-    let mut board = [9u8; puzzle::CELLS];
+    let mut output = [9u8; puzzle::OUTPUT];
+    other_memory(b"32,767 entries:\n", &mut table, &mut output);
+}
+
+// An output with one byte too many.
+pub fn long_output() {
+    let mut table = [700u16; puzzle::ENTRIES];
     let mut output = [9u8; 666];
-    let n = puzzle::answer(
-        b"..\n..\n",
-        &mut givens,
-        &mut table,
-        &mut board,
-        &mut output,
-    );
-    report::text(b"32,767 entries, and an output of 666 bytes:\n");
+    other_memory(b"an output of 666 bytes:\n", &mut table, &mut output);
+}
+
+fn other_memory(name: &[u8], table: &mut [u16], output: &mut [u8]) {
+    let mut givens = [9u8; puzzle::CELLS];
+    let mut board = [9u8; puzzle::CELLS];
+    let n = puzzle::answer(b"..\n..\n", &mut givens, table, &mut board, output);
+    report::text(name);
     wrote(
         n,
-        unlike(&output, 9),
-        entries_unlike(&table, 700),
+        unlike(output, 9),
+        entries_unlike(table, 700),
         unlike(&givens, 9),
         unlike(&board, 9),
     );

@@ -16,5 +16,6 @@ fn main() {
     texts::longest();
     texts::largest();
     texts::one_row_more();
-    answers::other_memory();
+    answers::short_table();
+    answers::long_output();
 }

@@ -23,16 +23,17 @@ pub fn scored() {
     answers::show(b"4 by 5", b"....\n....\n....\n....\n....\n");
 }
 
-// A comment, and 2 by 2.
+// A wrong byte, then a comment, and 2 by 2.
 pub fn longest() {
     let mut text = [b'!'; 4097];
+    text[0] = b'x';
     text[4091] = b'\n';
     text[4092] = b'.';
     text[4093] = b'.';
     text[4094] = b'\n';
     text[4095] = b'.';
     text[4096] = b'.';
-    answers::show(b"4,097 bytes", &text);
+    answers::show(b"4,097 bytes, the first one wrong", &text);
     answers::show(b"4,096 bytes", from(&text, 1));
 }
 

@@ -1,7 +1,7 @@
 -- Laws of rules: which are allowed, next states under them, and Conway's as Life's.
 -- Assumes nothing.
 use mathlib.Core.Path.{_≡_, refl, _∙_, sym, ap}
-use mathlib.Core.Bool.{Bool, true, false, cond, _&&_}
+use mathlib.Core.Bool.{true, _&&_}
 use mathlib.Core.List.{List}
 use Prim.Native.Nat.{ℕ, zero, suc, _+_, _-_, _/_, _%_, _^_, _<_, _≤_}
 use native.Mathlib.Nat.{div-eq-of-lt, zero-div, div-one, not-suc-le-zero, le-of-suc-le-suc}
@@ -82,13 +82,6 @@ module _ (rule : Rule) where
   grid-passes s a = rw (size-passes s) (rule-passes a)
 
   -- ---- next states
-  pub state-one : (c n : ℕ) → stateUnder rule c n ≤ 1
-  state-one c n = go (eqb c 0)
-    where
-      go : (t : Bool) → cond t (hasCount (rule .births) n) (hasCount (rule .survivals) n) ≤ 1
-      go true = omega arith
-      go false = omega arith
-
   -- pattern 0 is a dead cell with no live neighbour
   pub dead-stays : Allowed rule → nextUnder rule 0 ≡ 0
   unfolding nextUnder

@@ -28,7 +28,7 @@ use Rattle.job.specs.declared.JobResult.{JobResult}
 use Rattle.solver.proofs.CheckLaws.{work-checked, lent-of}
 use Rattle.job.proofs.Shapes.{table-pos}
 use Rattle.solver.proofs.Third.{third-demand}
-use Rattle.runner.specs.Solving.{memoryCheck, solvedSays, Ends, best, none, Comes, Ready, Runs}
+use Rattle.runner.specs.Solving.{memoryCheck, solvedSays, Ends, best, none, SolvesTo, Ready, Runs}
 use Rattle.runner.specs.declared.Solved.{Solved}
 use Rattle.runner.proofs.Appending.{run-append, summed-append, each-append, each-last}
 use Rattle.runner.proofs.Memory.{start-opens, start-check, check-passes, Kept, works-kept}
@@ -227,7 +227,7 @@ module _ {rule : Rule} (permitted : Allowed rule) {w h : ℕ} {g : List ℕ} (G 
           more = omega (arith, T .units);
         }
 
-    ends : (turn g n s .answer ≡ unfinished → ⊥) → Comes (memoryCheck w h t₀ β₀) rule w h g t₀ β₀ (turn g n s .answer) (turn g n s .state .table) (turn g n s .state .board)
+    ends : (turn g n s .answer ≡ unfinished → ⊥) → SolvesTo (memoryCheck w h t₀ β₀) rule w h g t₀ β₀ (turn g n s .answer) (turn g n s .state .table) (turn g n s .state .board)
     ends f = record {
       turned = λ k values e.
           let q = refused-turn g n s (P .check ∙ e) in

@@ -37,13 +37,13 @@ pub data Ends (rule : Rule) (w h : ℕ) (givens board : List ℕ) (says : Answer
 
 -- Turned away, the call answers its refusal and writes nothing. Otherwise it comes to the job's end, and the table holds the right entries, with
 -- what it held in every place past them.
-pub record Comes (check : Answer) (rule : Rule) (w h : ℕ) (givens table board : List ℕ) (says : Answer) (table′ board′ : List ℕ) : Type 0 where
+pub record SolvesTo (check : Answer) (rule : Rule) (w h : ℕ) (givens table board : List ℕ) (says : Answer) (table′ board′ : List ℕ) : Type 0 where
   pub turned : (n : ℕ) (values : List ℕ) → check ≡ refuses n values → (says ≡ refuses n values) × (table′ ≡ table) × (board′ ≡ board)
   pub ended : check ≡ passed → Ends rule w h givens board says board′
   pub filled : check ≡ passed → FilledTo rule w h givens (tableSize w h) table table′
 
 pub record Solves (rule : Rule) (w h : ℕ) (givens table board : List ℕ) (r : Solved) (table′ board′ : List ℕ) : Type 0 where
-  pub comes : Comes (solveCheck rule w h givens table board) rule w h givens table board (solvedSays r) table′ board′
+  pub comes : SolvesTo (solveCheck rule w h givens table board) rule w h givens table board (solvedSays r) table′ board′
 
 -- ---- the inner function
 -- an opened job and its givens
@@ -53,4 +53,4 @@ pub record Ready (j : Job) (givens : List ℕ) : Type 0 where
   pub grid : Givens (j .width) (j .height) givens
 
 pub record Runs (j : Job) (givens table board : List ℕ) (r : Solved) (table′ board′ : List ℕ) : Type 0 where
-  pub comes : Comes (memoryCheck (j .width) (j .height) table board) (j .rule) (j .width) (j .height) givens table board (solvedSays r) table′ board′
+  pub comes : SolvesTo (memoryCheck (j .width) (j .height) table board) (j .rule) (j .width) (j .height) givens table board (solvedSays r) table′ board′

@@ -8,6 +8,7 @@ use native.Mathlib.Omega.{arith}
 use borrow.Author.Tests.{le-leb, lt-leb, lt-ltb, le-ltb, eq-eqb, ne-eqb, leb-true, leb-false, ltb-true, ltb-false, eqb-true, eqb-false}
 use lib.Dec.{eqb, leb, ltb}
 use lib.ListN.{length}
+use Rattle.board.specs.Boards.{maxWidth, maxHeight}
 use Rattle.board.proofs.Tests.{and-left, and-right}
 use Rattle.elimination.specs.Candidates.{Choice, nothing, chosen}
 use Rattle.elimination.specs.Kind.{choose}
@@ -31,9 +32,9 @@ layer-within w n at l = go (leb at (n - 4 ^ w)) refl
     go false e = e ∙ sym (lt-leb (at + 4 ^ w) n (omega (arith, leb-false at (n - 4 ^ w) e)))
 
 module _ (w h : ℕ) (g : List ℕ) where
-  grid-marks : w ≤ 10 → h ≤ 60 → eqb (length g) (w * h) ≡ gridFits w h g
+  grid-marks : w ≤ maxWidth → h ≤ maxHeight → eqb (length g) (w * h) ≡ gridFits w h g
   unfolding gridFits
-  grid-marks p q = rw (le-leb w 10 p, le-leb h 60 q)
+  grid-marks p q = rw (le-leb w maxWidth p, le-leb h maxHeight q)
 
   pub grid-fits : Memory w h g → gridFits w h g ≡ true
   grid-fits L = sym (grid-marks (L .narrow) (L .low)) ∙ eq-eqb (length g) (w * h) (L .marks)
@@ -41,30 +42,30 @@ module _ (w h : ℕ) (g : List ℕ) where
   pub grid-of : gridFits w h g ≡ true → Memory w h g
   unfolding gridFits
   grid-of e =
-      let narrow = leb w 10 in
-      let low = leb h 60 in
+      let narrow = leb w maxWidth in
+      let low = leb h maxHeight in
       let marked = eqb (length g) (w * h) in
       let q = and-left (narrow && low) marked e in record {
-        narrow = leb-true w 10 (and-left narrow low q);
-        low = leb-true h 60 (and-right narrow low q);
+        narrow = leb-true w maxWidth (and-left narrow low q);
+        low = leb-true h maxHeight (and-right narrow low q);
         marks = eqb-true (length g) (w * h) (and-right (narrow && low) marked e);
       }
 
 module _ (want : Want) (w h : ℕ) (g : List ℕ) where
   -- ---- the givens and the numbers, as the code tests them
-  pub call-wide : 10 < w → false ≡ callFits want w h g
+  pub call-wide : maxWidth < w → false ≡ callFits want w h g
   unfolding gridFits
-  call-wide l = rw (lt-leb w 10 l)
+  call-wide l = rw (lt-leb w maxWidth l)
 
-  pub call-tall : w ≤ 10 → 60 < h → false ≡ callFits want w h g
+  pub call-tall : w ≤ maxWidth → maxHeight < h → false ≡ callFits want w h g
   unfolding gridFits
-  call-tall p l = rw (le-leb w 10 p, lt-leb h 60 l)
+  call-tall p l = rw (le-leb w maxWidth p, lt-leb h maxHeight l)
 
-  pub call-unmarked : w ≤ 10 → h ≤ 60 → (length g ≡ w * h → ⊥) → false ≡ callFits want w h g
+  pub call-unmarked : w ≤ maxWidth → h ≤ maxHeight → (length g ≡ w * h → ⊥) → false ≡ callFits want w h g
   unfolding gridFits
-  call-unmarked p q n = rw (le-leb w 10 p, le-leb h 60 q, ne-eqb (length g) (w * h) n)
+  call-unmarked p q n = rw (le-leb w maxWidth p, le-leb h maxHeight q, ne-eqb (length g) (w * h) n)
 
-  pub call-numbers : w ≤ 10 → h ≤ 60 → length g ≡ w * h → ltb (want .limit) (absent - w) ≡ callFits want w h g
+  pub call-numbers : w ≤ maxWidth → h ≤ maxHeight → length g ≡ w * h → ltb (want .limit) (absent - w) ≡ callFits want w h g
   call-numbers p q m = go (ltb (want .limit) (absent - w)) refl
     where
       L : gridFits w h g ≡ true

@@ -8,6 +8,9 @@ ghost use Rattle.life.specs.Rows.{window, stepsTo};
 ghost use Rattle.score_table.specs.Inner.{columnOf, Columns, passes};
 ghost use Rattle.score_table.specs.Rows.{markKept, rowKept, cellWorth, rowWorth};
 
+// Columns 0 to w + 1 of the widest grid.
+const COLUMNS: usize = board::MAX_WIDTH + 2;
+
 // The number of rows of width w.
 pub fn row_codes(w: usize) -> usize
     requires { ⌜ w ≤ maxWidth ⌝ }
@@ -33,11 +36,11 @@ fn column(w: usize, a: usize, b: usize, t: usize, j: usize) -> usize
 }
 
 // Columns 0 to w + 1: what the test of a column asks of a, b and t, once for all rows below them.
-pub fn columns(w: usize, a: usize, b: usize, t: usize) -> [usize; 12]
+pub fn columns(w: usize, a: usize, b: usize, t: usize) -> [usize; COLUMNS]
     requires { ⌜ (w ≤ maxWidth) × (a < 2 ^ w) × (b < 2 ^ w) × (t < 2 ^ w) ⌝ }
     ensures { λ r. ⌜ Columns w a b t r ⌝ }
 {
-    let mut r = [0; 12];
+    let mut r = [0; COLUMNS];
     for j in 0..w + 2 {
         r[j] = column(w, a, b, t, j);
     }

@@ -20,6 +20,11 @@ use Rattle.service.specs.Service.{State, Step, next, spoiled}
 abbrev pub here : Job → Numbers
 here j = numbersIn (numbersOf j)
 
+-- of the jobs of one kind, rule and size: another job of the same rule and size is one of them, whatever its other numbers
+abbrev pub OfAnyNumbers : (Job → Type 0) → Type 0
+OfAnyNumbers Of =
+    (j : Job) (t : Checkpoint) → Of j → t .width ≡ j .width → t .height ≡ j .height → t .births ≡ j .rule .births → t .survivals ≡ j .rule .survivals → Of (jobOf t)
+
 module _ (J : Setup ℕ (List ℕ)) where
   -- a row is written into its part of the board; where there is none, the job ends at row 1, and the table is spoiled at a later row
   abbrev pub rowStep : ℕ → State (List ℕ) → Choice ℕ → Step (List ℕ)
@@ -57,9 +62,7 @@ module _ (J : Setup ℕ (List ℕ)) where
         → checkpointFits (numbersWith j (afterRow (J .height) r c (J .kind .add (J .height - suc r) c (liveOf (j .stage))) (here j))) ≡ true
     pub after-none : (j : Job) → Of j → jobFits j ≡ true → markOf (j .stage) ≡ 0 → (source : ℕ) → J .plan (j .units) ≡ row 0 source
         → checkpointFits (numbersWith j (afterNone (here j))) ≡ true
-    -- and a job of other numbers of this rule and size is the setup's too
-    pub same : (j : Job) (t : Checkpoint) → Of j → t .width ≡ j .width → t .height ≡ j .height → t .births ≡ j .rule .births → t .survivals ≡ j .rule .survivals
-        → Of (jobOf t)
+    pub same : OfAnyNumbers Of
 
   -- What a kind has to show for that: its shape is lawful and the setup's, its jobs are of this shape, and a row adds at most what the shape says.
   pub record Numbered (S : Shape) (Of : Job → Type 0) : Type 0 where
@@ -69,8 +72,7 @@ module _ (J : Setup ℕ (List ℕ)) where
     pub codes : S .codes ≡ J .kind .codes
     pub is : (j : Job) → Of j → shapeOf (j .width) (j .height) ≡ S
     pub earns : (k c n : ℕ) → J .kind .add k c n ≤ S .most + n
-    pub same : (j : Job) (t : Checkpoint) → Of j → t .width ≡ j .width → t .height ≡ j .height → t .births ≡ j .rule .births → t .survivals ≡ j .rule .survivals
-        → Of (jobOf t)
+    pub same : OfAnyNumbers Of
 
   -- THE THEOREM of a job's numbers, for every shape
   abbrev pub NumbersContinue : Type 1

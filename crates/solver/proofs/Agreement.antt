@@ -9,6 +9,7 @@ use lib.Dec.{eqb}
 use lib.IntN.{pos, predℤ, sucℤ}
 use borrow.Author.Tests.{le-leb}
 use lib.ListN.{length}
+use Rattle.board.specs.Boards.{maxWidth}
 use Rattle.board.specs.Search.{allBelow}
 use Rattle.elimination.specs.Kind.{Kind, choose}
 use Rattle.elimination.specs.Table.{reads, fillEntry}
@@ -39,7 +40,7 @@ nine-small w a b c j =
     )
 
 -- a grid's numbers can't be taken for none
-small : {w : ℕ} → w ≤ 10 → mostLive .limit + w < absent
+small : {w : ℕ} → w ≤ maxWidth → mostLive .limit + w < absent
 small l = omega arith
 
 module _ (next : ℕ → ℕ) (table : List ℕ) (H : Holds next table) where

@@ -13,7 +13,7 @@ use lib.Dec.{lit<}
 use lib.ListN.{length, getD}
 use Rattle.board.specs.Boards.{Sized, Board}
 use Rattle.board.proofs.Search.{all-of, all-at}
-use Rattle.board.proofs.Tests.{and-left, and-right}
+use Rattle.board.proofs.Tests.{and-left, and-right, and-true}
 use Rattle.elimination.specs.Kind.{Kind}
 use Rattle.elimination.specs.Endings.{Ending, Laws, total}
 use Rattle.elimination.proofs.Endings.{total-none, total-more}
@@ -27,7 +27,6 @@ use Rattle.solver.specs.Grid.{KeepsGivens, Solution, score}
 use Rattle.score_table.specs.Rows.{rowWorth, markKept, rowKept}
 use Rattle.score_table.specs.ScoreTable.{mostLive, rules, kindOf}
 use Rattle.solver.specs.Theorems.{nextRows, allRows}
-use Rattle.job.proofs.Fits.{and-true}
 use Rattle.score_table.proofs.Marks.{MarkIs, isDead, isLive, isFree, mark-is, row-worth-le}
 use Rattle.solver.proofs.RowLaws.{row-none, row-past, row-lt, row-digit, Place, place, score-more, score-none}
 

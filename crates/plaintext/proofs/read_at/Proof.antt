@@ -7,6 +7,7 @@ use native.Mathlib.Nat.{mul-le-mul}
 use native.Mathlib.Omega.{arith}
 use borrow.Author.Needs.{needs}
 use lib.ListN.{length}
+use Rattle.board.specs.Boards.{maxWidth, maxHeight}
 use Rattle.board.specs.Answers.{passed}
 use Rattle.board.specs.Checks.{widthCheck, heightCheck}
 use Rattle.board.proofs.Answers.{turned-away, let-through, passed-on}
@@ -71,7 +72,7 @@ mul-if1 : tie.Need-mul-if1
 mul-if1 c =
     let g = c .before .before .before .before .before .before .before .width .given .0 in
     let s = checked-size (g .0) (g .1 .0) (low c) (narrow c) in
-    let l : g .0 * g .1 .0 ≤ 10 * 60 = mul-le-mul (s .narrow) (s .low) in
+    let l : g .0 * g .1 .0 ≤ maxWidth * maxHeight = mul-le-mul (s .narrow) (s .low) in
     omega arith
 
 returns-3 : tie.Need-returns-3

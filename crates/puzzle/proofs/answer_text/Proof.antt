@@ -6,6 +6,7 @@ use native.Mathlib.Omega.{arith}
 use borrow.Author.Needs.{needs}
 use lib.ListN.{length}
 use lib.Seq.{length-take-le}
+use Rattle.puzzle.specs.Sizes.{cellRoom}
 use Rattle.puzzle.proofs.Reading.{Sizes, sizes, long-text, refused-text, read-board, read-small, read-solved}
 use Rattle.puzzle.proofs.answer_text.Statement.{statement}
 use Rattle.puzzle.proofs.answer_text.Tie as tie
@@ -15,7 +16,7 @@ room : (c : tie.Start) → Sizes (length (c .args .givens .now)) (length (c .arg
 room c = sizes (length (c .args .givens .now)) (length (c .args .table .now)) (length (c .args .board .now)) (length (c .args .output .now)) (c .pre)
 
 -- what was read fits them
-small : (c : tie.After-known-told2) → c .before .width .given .0 .0 * c .before .width .given .0 .1 .0 ≤ 600
+small : (c : tie.After-known-told2) → c .before .width .given .0 .0 * c .before .width .given .0 .1 .0 ≤ cellRoom
 small c =
     let r = c .before .before .before .before .before in
     read-small (r .before .before .if1 .left) (room (r .before .before .before .before .before .before .before .before) .givens-room) (r .read-text .ensures) (c .before .width .given .1)

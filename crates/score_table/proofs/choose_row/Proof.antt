@@ -8,6 +8,7 @@ use native.Mathlib.Omega.{arith}
 use borrow.Author.Needs.{needs}
 use borrow.Author.Tests.{leb-true, not-true, not-false}
 use lib.ListN.{length}
+use Rattle.board.specs.Boards.{maxWidth, maxHeight}
 use Rattle.rule.specs.Rule.{entryOf}
 use Rattle.elimination.specs.Kind.{choose}
 use Rattle.elimination.specs.Table.{reads}
@@ -43,7 +44,7 @@ inside c = c .before .before .before .before .before .if2 .left
 cells-room : (c : tie.Else5) → let g = c .before .before .before .before .before .before .before .before .before .before .args in g .r * g .w + g .w ≤ length (g .givens .now)
 cells-room c = let L = lent (c .before .before .before .before .before .before) in rw (L .marks) (row-room _ _ _ (inside c))
 
-cells-le : (c : tie.Else5) → let g = c .before .before .before .before .before .before .before .before .before .before .args in length (g .givens .now) ≤ 600
+cells-le : (c : tie.Else5) → let g = c .before .before .before .before .before .before .before .before .before .before .args in length (g .givens .now) ≤ maxWidth * maxHeight
 cells-le c = let L = lent (c .before .before .before .before .before .before) in rw (L .marks) (mul-le-mul (L .narrow) (L .low))
 
 first-room : (c : tie.Else5) → let g = c .before .before .before .before .before .before .before .before .before .before .args in

@@ -5,6 +5,7 @@ use mathlib.Core.Bool.{true}
 use Prim.Native.Nat.{_^_, _<_, _≤_}
 use borrow.Author.Needs.{needs}
 use borrow.Author.Tests.{not-true, not-false}
+use Rattle.board.specs.Boards.{maxWidth}
 use Rattle.score_table.specs.Calls.{callFits, layerFits}
 use Rattle.score_table.proofs.Calls.{call-memory, fits-unfit, fits-past, fits-outside, fits-target, fits-last, fits-source}
 use Rattle.score_table.proofs.fill_fits.Statement.{statement}
@@ -14,7 +15,7 @@ use Rattle.score_table.proofs.fill_fits.Tie as tie
 fitting : (c : tie.Else1) → let g = c .before .before .before .args in callFits (g .want) (g .w) (g .h) (g .givens .now) ≡ true
 fitting c = sym (c .before .fits2 .ensures) ∙ not-false _ (c .if1 .left)
 
-narrow : (c : tie.Else1) → c .before .before .before .args .w ≤ 10
+narrow : (c : tie.Else1) → c .before .before .before .args .w ≤ maxWidth
 narrow c = call-memory (c .before .before .before .args .want) _ _ _ (fitting c) .narrow
 
 inside : (c : tie.Else3) → let g = c .before .before .before .before .before .before .args in g .j < 4 ^ g .w

@@ -6,7 +6,7 @@ use native.Mathlib.Nat.{mul-le-mul}
 use native.Mathlib.Omega.{arith}
 use borrow.Author.Needs.{needs}
 use Rattle.board.specs.Answers.{passed}
-use Rattle.board.specs.Boards.{Board}
+use Rattle.board.specs.Boards.{Board, maxWidth, maxHeight}
 use Rattle.board.specs.Checks.{boardCheck}
 use Rattle.board.proofs.Answers.{turned-away, let-through}
 use Rattle.board.proofs.Checks.{boarded}
@@ -42,8 +42,8 @@ mul-length : tie.Need-mul-length
 mul-length c =
     let a = c .before .before .before .before .before .args in
     let s = board c .size in
-    let m : a .w + 1 ≤ 11 = omega arith in
-    let l : a .h * (a .w + 1) ≤ 60 * 11 = mul-le-mul (s .low) m in
+    let m : a .w + 1 ≤ maxWidth + 1 = omega arith in
+    let l : a .h * (a .w + 1) ≤ maxHeight * (maxWidth + 1) = mul-le-mul (s .low) m in
     omega arith
 
 returns-2 : tie.Need-returns-2

@@ -6,6 +6,7 @@ use Prim.Native.Nat.{_-_, _/_, _<_, _≤_}
 use native.Mathlib.Nat.{mul-le-mul}
 use native.Mathlib.Omega.{arith}
 use borrow.Author.Needs.{needs}
+use Rattle.board.specs.Boards.{maxHeight}
 use Rattle.job.proofs.Shapes.{task-fill, after-lt, layer-le}
 use Rattle.job.proofs.units.fill_task.Statement.{statement}
 use Rattle.job.proofs.units.fill_task.Tie as tie
@@ -30,7 +31,7 @@ sub-source c = omega (arith, fewer c)
 
 mul-source : tie.Need-mul-source
 mul-source c =
-    let l : c .before .args .h - c .before .args .units / c .table-size .result ≤ 60 = omega (arith, c .before .pre .1) in
+    let l : c .before .args .h - c .before .args .units / c .table-size .result ≤ maxHeight = omega (arith, c .before .pre .1) in
     omega (arith, mul-le-mul l (layer c))
 
 sub-target : tie.Need-sub-target
@@ -41,7 +42,7 @@ sub-target-2 c = omega (arith, fewer c)
 
 mul-target : tie.Need-mul-target
 mul-target c =
-    let l : c .before .args .h - 1 - c .before .args .units / c .table-size .result ≤ 60 = omega (arith, c .before .pre .1) in
+    let l : c .before .args .h - 1 - c .before .args .units / c .table-size .result ≤ maxHeight = omega (arith, c .before .pre .1) in
     omega (arith, mul-le-mul l (layer c))
 
 rem-entry : tie.Need-rem-entry

@@ -6,6 +6,7 @@ use Prim.Native.Nat.{_-_, _≤_}
 use native.Mathlib.Nat.{mul-le-mul}
 use native.Mathlib.Omega.{arith}
 use borrow.Author.Needs.{needs}
+use Rattle.board.specs.Boards.{maxHeight}
 use Rattle.job.proofs.Shapes.{task-row, layer-le}
 use Rattle.job.proofs.units.row_task.Statement.{statement}
 use Rattle.job.proofs.units.row_task.Tie as tie
@@ -22,7 +23,7 @@ table-size-requires-2 c κs = search needs
 mul-source : tie.Need-mul-source
 mul-source c =
     let s = c .before .before in
-    let l : s .args .units - c .before .table-size .result ≤ 60 = omega (arith, c .before .table-size .ensures .0, s .pre .1, s .pre .3) in
+    let l : s .args .units - c .before .table-size .result ≤ maxHeight = omega (arith, c .before .table-size .ensures .0, s .pre .1, s .pre .3) in
     omega (arith, mul-le-mul l (layer-le _ _ (c .table-size2 .ensures .0) (s .pre .0)))
 
 returns : tie.Need-returns

@@ -8,6 +8,7 @@ use borrow.Author.Needs.{needs}
 use borrow.Author.Tests.{not-true, not-false}
 use lib.ListN.{length}
 use lib.Pow.{pow-pos}
+use Rattle.board.specs.Boards.{maxHeight}
 use Rattle.elimination.specs.Kind.{worthOf}
 use Rattle.score_table.specs.ScoreTable.{absent}
 use Rattle.score_table.specs.Inner.{choiceOf}
@@ -68,7 +69,7 @@ sub-r c = search needs
 mul-best-row : tie.Need-mul-best-row
 mul-best-row c =
     let s = c .before .before .before .before in
-    let l : s .args .h - s .args .k ≤ 60 = omega (arith, s .pre .0 .memory .low) in
+    let l : s .args .h - s .args .k ≤ maxHeight = omega (arith, s .pre .0 .memory .low) in
     omega (arith, mul-le-mul l (s .pre .0 .memory .narrow))
 
 mul-best-row-2 : tie.Need-mul-best-row-2
