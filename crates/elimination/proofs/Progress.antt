@@ -15,7 +15,8 @@ use Rattle.elimination.specs.Task.{Task, fill, row, fillTask, afterTasks
 use Rattle.elimination.specs.Machine.{advance, Lasts}
 use Rattle.elimination.specs.Job.{Mark, running, finished, infeasible, endMark, State, Setup, opened, takeRow, act, actIf, unit, machine}
 use Rattle.elimination.specs.Shape.{Shape, rowsChosen, ShapeLaws}
-use Rattle.elimination.specs.Progress.{RowWriter, Written, rowAt, worthSoFar, Carried, rowsHeld, ProgressMade}
+use Rattle.elimination.specs.Rows.{OnlyRows, RowWriter}
+use Rattle.elimination.specs.Progress.{Written, rowAt, worthSoFar, Carried, rowsHeld, ProgressMade}
 use Rattle.elimination.proofs.Candidates.{RowBelow}
 use Rattle.elimination.proofs.Kind.{choose-below}
 use Rattle.elimination.proofs.Machine.{advance-zero, advance-suc}
@@ -65,7 +66,7 @@ module _ {X : Type 0} (J : Setup X (List ℕ)) {w : ℕ} {read : ℕ → List �
   carried-more : (r c : ℕ) {a b : ℕ} {x : X} (board : List ℕ) → r < J .height → c < J .kind .codes → suc r * w ≤ length board → Carried J read r board a b x
       → Carried J read (suc r) (J .write r c board) b c (J .kind .add (J .height - suc r) c x)
   carried-more r c board l lc room C =
-      let D = carried-alike board (J .write r c board) (λ p q. sym (W .before r c board p q)) C in
+      let D = carried-alike board (J .write r c board) (λ p q. sym (W .only r c board .above p q)) C in
       let e : suc r - 1 ≡ r = omega arith in
       let f = W .back r c board lc room in record {
         few = l;
@@ -116,15 +117,9 @@ module _ {X : Type 0} (J : Setup X (List ℕ)) (S : Shape) (w : ℕ) (read : ℕ
   unfolding rowsChosen
   held-none m e = rw e
 
-  -- what unit m leaves of the board, with k rows chosen before it and k′ after
-  record Leaves (k k′ : ℕ) (s s′ : State X (List ℕ)) : Type 0 where
-    size : length (s′ .board) ≡ length (s .board)
-    low : (p : ℕ) → p < k * w → getD (s′ .board) p 0 ≡ getD (s .board) p 0
-    rest : (p : ℕ) → k′ * w ≤ p → getD (s′ .board) p 0 ≡ getD (s .board) p 0
-
   -- unit m of the job
   record Unit-done (m : ℕ) : Type 0 where
-    leaves : Leaves (held m) (held (suc m)) (after m) (after (suc m))
+    only : OnlyRows w (held m) (held (suc m)) (after m .board) (after (suc m) .board)
     grows : held m ≤ held (suc m)
     table : after (suc m) .table ≡ fillTask (J .kind) (J .plan m) (after m .table)
     carries : length (after m .board) ≡ length β → Carries (held m) (after m) → Carries (held (suc m)) (after (suc m))
@@ -140,7 +135,7 @@ module _ {X : Type 0} (J : Setup X (List ℕ)) (S : Shape) (w : ℕ) (read : ℕ
         let h : held (suc m) ≡ held m =
         held-running (suc m) l (ap (λ (s : State X (List ℕ)). s .mark) n ∙ running-at m l) ∙ L .fills m k source target j (omega arith) p .0 ∙ sym held-here in
         record {
-          leaves = rw (h, n) (record { size = refl; low = λ q b. refl; rest = λ q b. refl });
+          only = rw (h, n) (record { size = refl; above = λ q b. refl; below = λ q b. refl });
           grows = omega (arith, h);
           table = rw (n, e);
           carries = λ z C. rw (h, n) C;
@@ -154,7 +149,7 @@ module _ {X : Type 0} (J : Setup X (List ℕ)) (S : Shape) (w : ℕ) (read : ℕ
         let h′ : held (suc m) ≡ suc r = held-more (suc m) l (ltb (suc r) (J .height)) (ap (λ (s : State X (List ℕ)). s .mark) n) ∙ q .1 in
         let lr : r < J .height = omega (arith, chosen-few S L (omega arith) m (omega arith), q .0) in
         record {
-          leaves = rw (h, h′, n) (record { size = W .size r c (after m .board); low = W .before r c (after m .board); rest = W .after r c (after m .board) });
+          only = rw (h, h′, n) (W .only r c (after m .board));
           grows = omega (arith, h, h′);
           table = rw (n, e);
           carries = λ z C. rw (h′, n) (carried-more J W r c (after m .board) lr lc (omega (arith, mul-le-mul-right w lr)) (rw h at C));
@@ -164,7 +159,7 @@ module _ {X : Type 0} (J : Setup X (List ℕ)) (S : Shape) (w : ℕ) (read : ℕ
         let h : held m ≡ 0 = held-here ∙ L .chooses m 0 source (omega arith) p .0 in
         let h′ : held (suc m) ≡ 0 = held-none (suc m) (ap (λ (s : State X (List ℕ)). s .mark) n) in
         record {
-          leaves = rw (h, h′, n) (record { size = refl; low = λ q b. refl; rest = λ q b. refl });
+          only = rw (h, h′, n) (record { size = refl; above = λ q b. refl; below = λ q b. refl });
           grows = omega (arith, h, h′);
           table = rw (n, e);
           carries = λ z C. rw (h′, n) (rw h at C);
@@ -191,13 +186,13 @@ module _ {X : Type 0} (J : Setup X (List ℕ)) (S : Shape) (w : ℕ) (read : ℕ
 
   board-size : (m : ℕ) → m ≤ long → length (after m .board) ≡ length β
   board-size zero l = rw (advance-zero (machine J) (opened (J .kind) t β))
-  board-size (suc m) l = unit-done m l .leaves .size ∙ board-size m (omega arith)
+  board-size (suc m) l = unit-done m l .only .size ∙ board-size m (omega arith)
 
   board-rest : (m : ℕ) → m ≤ long → (p : ℕ) → held m * w ≤ p → getD (after m .board) p 0 ≡ getD β p 0
   board-rest zero l p q = rw (advance-zero (machine J) (opened (J .kind) t β))
   board-rest (suc m) l p q =
       let U = unit-done m l in
-      U .leaves .rest p q ∙ board-rest m (omega arith) p (le-trans (mul-le-mul-right w (U .grows)) q)
+      U .only .below p q ∙ board-rest m (omega arith) p (le-trans (mul-le-mul-right w (U .grows)) q)
 
   -- the rows chosen by m stay
   board-stays : (d m : ℕ) → m + d ≤ long → (p : ℕ) → p < held m * w → (getD (after (m + d) .board) p 0 ≡ getD (after m .board) p 0) × (p < held (m + d) * w)
@@ -206,7 +201,7 @@ module _ {X : Type 0} (J : Setup X (List ℕ)) (S : Shape) (w : ℕ) (read : ℕ
       let e : m + suc d ≡ suc (m + d) = omega arith in
       let U = unit-done (m + d) (omega arith) in
       let i = board-stays d m (omega arith) p q in
-      rw e (U .leaves .low p (i .1) ∙ i .0, le-trans (i .1) (mul-le-mul-right w (U .grows)))
+      rw e (U .only .above p (i .1) ∙ i .0, le-trans (i .1) (mul-le-mul-right w (U .grows)))
 
   board-is : (m : ℕ) → m ≤ long → Written w (held m) (after long .board) β (after m .board)
   board-is m l = record {

@@ -9,14 +9,7 @@ use Rattle.elimination.specs.Machine.{advance, Lasts}
 use Rattle.elimination.specs.Job.{markNumber, State, Setup, opened, machine}
 use Rattle.elimination.specs.Places.{Filled, Orderly}
 use Rattle.elimination.specs.Shape.{Shape, rowsChosen, ShapeLaws}
-
--- How rows stand in a board, counted from 0: each is written within its w bytes, and reads back from them.
-pub record RowWriter (w codes : ℕ) (write : ℕ → ℕ → List ℕ → List ℕ) (read : ℕ → List ℕ → ℕ) : Type 0 where
-  pub size : (r c : ℕ) (board : List ℕ) → length (write r c board) ≡ length board
-  pub before : (r c : ℕ) (board : List ℕ) (p : ℕ) → p < r * w → getD (write r c board) p 0 ≡ getD board p 0
-  pub after : (r c : ℕ) (board : List ℕ) (p : ℕ) → suc r * w ≤ p → getD (write r c board) p 0 ≡ getD board p 0
-  pub back : (r c : ℕ) (board : List ℕ) → c < codes → suc r * w ≤ length board → read r (write r c board) ≡ c
-  pub alike : (r : ℕ) (board other : List ℕ) → ((p : ℕ) → r * w ≤ p → p < suc r * w → getD board p 0 ≡ getD other p 0) → read r board ≡ read r other
+use Rattle.elimination.specs.Rows.{RowWriter}
 
 -- the first k rows of a board are the last board's, and every other byte is what it was
 pub record Written (w k : ℕ) (final before now : List ℕ) : Type 0 where

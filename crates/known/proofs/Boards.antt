@@ -16,7 +16,8 @@ use Rattle.life.specs.Calls.{nextAt, keepsAt, lifeCheck, judged, judgeRule}
 use Rattle.plaintext.specs.Lines.{linesOf}
 use Rattle.plaintext.specs.Reading as Reading
 use Rattle.score_table.specs.Rows.{markKept, rowKept, cellWorth, rowWorth}
-use Rattle.solver.specs.Rows.{written}
+use Rattle.board_rows.specs.Rows.{written}
+use Rattle.board_rows.specs.Calls.{rowWrites}
 use Rattle.elimination.specs.Shape.{unitsFit, rowsChosen, rowsFit, numbersFit}
 use Rattle.job.specs.Jobs.{checkpointFits, jobFits, stageOf, readCheck}
 use Rattle.service.specs.Units.{unitBy}
@@ -26,7 +27,7 @@ use Rattle.solver.specs.Units.{unitOf}
 use Rattle.known.specs.Known.{solved, chosenBy, Known}
 
 pub known : Known
-unfolding flatMap firstNot allBelow total sizeCheck cellsCheck givensCheck scan choose entry ruleCheck gridCheck nextUnder conway onPlane around cellOf becomes stepsTo nextAt keepsAt lifeCheck judged judgeRule linesOf Reading.judge Reading.judgeLines Reading.judged Reading.firstBad Reading.rowsOf Reading.widthOf Reading.filled Reading.cellsOf Reading.boardOver Reading.sizeRule Reading.readRule markKept rowKept cellWorth rowWorth written tableSize unitsFit rowsChosen rowsFit numbersFit checkpointFits jobFits stageOf readCheck workCheck lentCheck reads fillEntry plan unitBy unitOf worksOn workOf solved chosenBy
+unfolding flatMap firstNot allBelow total sizeCheck cellsCheck givensCheck scan choose entry ruleCheck gridCheck nextUnder conway onPlane around cellOf becomes stepsTo nextAt keepsAt lifeCheck judged judgeRule linesOf Reading.judge Reading.judgeLines Reading.judged Reading.firstBad Reading.rowsOf Reading.widthOf Reading.filled Reading.cellsOf Reading.boardOver Reading.sizeRule Reading.readRule markKept rowKept cellWorth rowWorth written rowWrites tableSize unitsFit rowsChosen rowsFit numbersFit checkpointFits jobFits stageOf readCheck workCheck lentCheck reads fillEntry plan unitBy unitOf worksOn workOf solved chosenBy
 known = record {
   m1 = refl;
   m2 = refl;
@@ -44,6 +45,9 @@ known = record {
   spoiled = refl;
   above-600 = refl;
   up-to-600 = refl;
+  row-of-6 = refl;
+  row-past = refl;
+  reflected = refl;
   bytes = (refl, refl, refl, refl, refl);
   short-row = record { answers = refl; leaves = refl };
   a-comment = record { answers = refl; leaves = refl };

@@ -1,4 +1,5 @@
--- Document 01, "Known boards": M1 to M10, the free 3 by 3 grid, grids with live givens, a spoiled table, and texts, stated of the rules themselves.
+-- Document 01, "Known boards": M1 to M10, the free 3 by 3 grid, grids with live givens, a spoiled table, rows written, and texts, stated of the rules
+-- themselves.
 -- Assumes nothing.
 use mathlib.Core.Path.{_≡_}
 use mathlib.Core.List.{List, [], _∷_}
@@ -11,6 +12,7 @@ use Rattle.writer.specs.Letters.{LF, CR, bang, dot, bigO}
 use Rattle.plaintext.specs.Reading.{readRule, ReadsText}
 use Rattle.plaintext.specs.declared.Read.the-variants.{Board}
 use Rattle.board.specs.Checks.{tableSize}
+use Rattle.board_rows.specs.Calls.{rowWrites}
 use Rattle.job.specs.Jobs.{start}
 use Rattle.job.specs.declared.Stage.{Stage}
 use Rattle.service.specs.Service.{Result, finished, infeasible, workOf}
@@ -73,6 +75,11 @@ pub record Known : Type 0 where
   -- a number read from the table above 600 counts as none, and 600 doesn't
   pub above-600 : chosenBy 601 ≡ record { answer = refuses 9 []; units = 9; board = 0 ∷ 9 ∷ [] }
   pub up-to-600 : chosenBy 600 ≡ record { answer = finished 0; units = 10; board = 0 ∷ 0 ∷ [] }
+  -- rows written into boards of 9s. Number 6 as row 2 of 3 cells: 1, 1, 0; as row 3 of a board of two it isn't written. Number 1 of two binary
+  -- digits as row 1 of 4 cells: 0, 1 and their reflection
+  pub row-of-6 : rowWrites 3 3 1 6 (replicate 6 9) ≡ 9 ∷ 9 ∷ 9 ∷ 1 ∷ 1 ∷ 0 ∷ []
+  pub row-past : rowWrites 3 3 2 6 (replicate 6 9) ≡ replicate 6 9
+  pub reflected : rowWrites 2 4 0 1 (replicate 4 9) ≡ 0 ∷ 1 ∷ 1 ∷ 0 ∷ []
   -- the bytes of the form: LF, CR, !, ., O
   pub bytes : (LF ≡ 10) × (CR ≡ 13) × (bang ≡ 33) × (dot ≡ 46) × (bigO ≡ 79)
   -- O, LF, .OO, LF: the short row is filled with dead cells, and the cell past the board isn't written

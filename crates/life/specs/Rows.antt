@@ -20,9 +20,13 @@ rowNumber cells place (suc n) = 2 * rowNumber cells place n + getD cells (place 
 unfoldable pub rowOf : ℕ → ℕ → List ℕ → ℕ → ℕ
 rowOf w h cells r = cond (among h r) (rowNumber cells ((r - 1) * w) w) 0
 
+-- the binary digit of a number that is worth 2^i
+abbrev pub digitAt : ℕ → ℕ → ℕ
+digitAt n i = n / 2 ^ i % 2
+
 -- the binary digit of a row in column c, 1 to w
 abbrev pub digitIn : ℕ → ℕ → ℕ → ℕ
-digitIn w row c = row / 2 ^ (w - c) % 2
+digitIn w row c = digitAt row (w - c)
 
 -- the cell of a row in each column; columns outside 1 to w are dead
 unfoldable pub cellOf : ℕ → ℕ → ℤ → ℕ

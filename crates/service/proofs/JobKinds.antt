@@ -103,7 +103,7 @@ module _ (Given : Type 0) (check : Job → Given → List ℕ → List ℕ → A
     progress : (m : ℕ) → m ≤ long → (e : State (List ℕ)) → F .Here e → view e ≡ after m → K .Progress wanted s e
     progress m l e H i =
         let tall : J .height * K .width ≤ length (s .board) = omega (arith, L .all-rows) in
-        let P = progress-made J (K .shape) (K .width) (L .read) (K .shape .entries) long (L .numbered .plans) (L .numbered .rows) (L .numbered .shaped) (L .orderly) (L .wide) (L .high)
+        let P = progress-made J (K .shape) (K .width) (K .read) (K .shape .entries) long (L .numbered .plans) (L .numbered .rows) (L .numbered .shaped) (L .orderly) (L .wide) (L .high)
         (L .writer) within (s .table) (s .board) room tall lasts m l in
         let u : e .job .units ≡ m = ap Elimination.done i ∙ lasts .counted m l in
         let k : rowsIn K (e .job) ≡ rowsHeld (K .shape) (after m) = rows-held e ∙ ap (rowsHeld (K .shape)) i in
@@ -195,7 +195,7 @@ module _ (Given : Type 0) (check : Job → Given → List ℕ → List ℕ → A
       L .progress wanted s s (B .of) (B .fits) (λ p. absurd (omega (arith, none-yet)))
       (rw (B .units) (record { size = refl; right = λ p k j S. absurd (omega (arith, S .before)); rest = λ p f. refl }))
       (rw none-yet (record { size = refl; rows = λ p l. absurd (omega arith); rest = λ p l. refl }))
-      (rw (none-yet, B .above, B .last, B .live) (subst (λ (x : ℕ). Carried (K .setup) (L .read) 0 wanted 0 0 x) (L .zero-start) (carried-none (K .setup) (L .read) wanted)))
+      (rw (none-yet, B .above, B .last, B .live) (subst (λ (x : ℕ). Carried (K .setup) (K .read) 0 wanted 0 0 x) (L .zero-start) (carried-none (K .setup) (K .read) wanted)))
 
   lengths : 0 < K .shape .noneLength
   lengths = omega (arith, L .length-none)

@@ -6,3 +6,4 @@ pub mod Units
 pub mod Lists
 pub mod Demand
 pub mod JobKinds
+pub mod RowUnits

@@ -12,7 +12,8 @@ use Rattle.elimination.specs.Plan.{Schedule, Scheduled}
 use Rattle.elimination.specs.Completion.{writeRows}
 use Rattle.elimination.specs.Places.{Filled, Orderly}
 use Rattle.elimination.specs.Shape.{Shape, rowsChosen}
-use Rattle.elimination.specs.Progress.{RowWriter, Written, Carried}
+use Rattle.elimination.specs.Rows.{RowWriter}
+use Rattle.elimination.specs.Progress.{Written, Carried}
 use Rattle.job.specs.Jobs.{jobFits, markOf, liveOf, aboveOf, lastOf}
 use Rattle.job.specs.declared.Job.{Job}
 use Rattle.service.specs.Service.{finished, State, Step, Service}
@@ -26,9 +27,10 @@ pub record JobKind : Type 1 where
   pub setup : Setup ℕ (List ℕ)
   -- its numbers: row codes, entries of the table, rows chosen, lengths, the most that a row is worth
   pub shape : Shape
-  -- the cells of a row, and of a board
+  -- the cells of a row, and of a board; and how a row reads back from them
   pub width : ℕ
   pub cells : ℕ
+  pub read : ℕ → List ℕ → ℕ
   -- the jobs of this kind, rule and size
   pub Of : Job → Type 0
   -- the boards among which one is wanted, the one that is, and its score
@@ -82,8 +84,7 @@ module _ (Given : Type 0) (check : Job → Given → List ℕ → List ℕ → A
     -- boards: they are their rows, each written within its cells and read back from them; an ending's rows make one board wherever they are written,
     -- and the wanted ending the wanted board
     pub all-rows : K .setup .height * K .width ≡ K .cells
-    pub read : ℕ → List ℕ → ℕ
-    pub writer : RowWriter (K .width) (K .setup .kind .codes) (K .setup .write) read
+    pub writer : RowWriter (K .width) (K .setup .kind .codes) (K .setup .write) (K .read)
     pub boardOf : List ℕ → List ℕ
     pub into : (rows : List ℕ) → Ending (K .setup .kind) (K .setup .height) 0 0 rows → (β : List ℕ) → length β ≡ K .cells
         → writeRows (K .setup .write) 0 rows β ≡ boardOf rows
@@ -96,7 +97,7 @@ module _ (Given : Type 0) (check : Job → Given → List ℕ → List ℕ → A
         → (0 < rowsIn K (now .job) → K .Wanted wanted)
         → Filled (K .setup .kind) (K .setup .plan) (now .job .units) (before .table) (now .table)
         → Written (K .width) (rowsIn K (now .job)) wanted (before .board) (now .board)
-        → Carried (K .setup) read (rowsIn K (now .job)) wanted (aboveOf (now .job .stage)) (lastOf (now .job .stage)) (liveOf (now .job .stage))
+        → Carried (K .setup) (K .read) (rowsIn K (now .job)) wanted (aboveOf (now .job .stage)) (lastOf (now .job .stage)) (liveOf (now .job .stage))
         → K .Progress wanted before now
 
   -- a job as it was opened: at unit 0, running, with no rows

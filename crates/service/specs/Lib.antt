@@ -5,3 +5,4 @@ pub mod Demand
 pub mod Units
 pub mod Laws
 pub mod JobKinds
+pub mod RowUnits

@@ -1,5 +1,4 @@
 -- The laws of this crate that belong to no one function, and its theorems. Each file builds on those above it.
-pub mod Writing
 pub mod RowLaws
 pub mod Endings
 pub mod Optimum

@@ -16,18 +16,19 @@ use Rattle.elimination.specs.Candidates.{NoBetterRows}
 use Rattle.elimination.specs.Kind.{Kind}
 use Rattle.elimination.specs.Endings.{Ending, total, BestEnding}
 use Rattle.elimination.specs.Completion.{writeRows}
-use Rattle.elimination.specs.Progress.{RowWriter}
+use Rattle.elimination.specs.Rows.{RowWriter}
 use Rattle.elimination.proofs.Numbers.{lt-or-ge}
 use Rattle.elimination.proofs.Sums.{tied-equal}
 use Rattle.elimination.proofs.Endings.{ending-length}
 use Rattle.rule.specs.declared.Rule.{Rule}
-use Rattle.life.specs.Rows.{rowNumber, rowOf}
+use Rattle.life.specs.Rows.{rowOf}
 use Rattle.solver.specs.Grid.{Solution, score, Precedes, Optimal}
-use Rattle.solver.specs.Units.{putRow}
+use Rattle.board_rows.specs.Rows.{rowCell, putRow, readRow}
+use Rattle.board_rows.proofs.Writing.{written-cell, cell-small}
+use Rattle.board_rows.proofs.Theorems.{reads-as-row, row-writer}
 use Rattle.solver.specs.Theorems.{nextRows, allRows}
 use Rattle.job.proofs.Fits.{Frame}
-use Rattle.solver.proofs.Writing.{written-length, written-before, written-after, written-cell, reads-back}
-use Rattle.solver.proofs.RowLaws.{same-number, row-inside, row-none, same-rows}
+use Rattle.solver.proofs.RowLaws.{row-none, same-rows}
 use Rattle.solver.proofs.Endings.{kind, solution-ends, ends-solution, total-score}
 
 -- ---- one row written: the row with r rows above it becomes c
@@ -35,51 +36,29 @@ use Rattle.solver.proofs.Endings.{kind, solution-ends, ends-solution, t
 abbrev Cells : List ℕ → ℕ → Type 0
 Cells board n = (p : ℕ) → p < n → getD board p 0 ≤ 1
 
--- the row with r rows above it
-abbrev pub readRow : ℕ → ℕ → List ℕ → ℕ
-readRow w r board = rowNumber board (r * w) w
+-- a grid's rows stand in its board, with a binary digit for each cell
+pub rows-stand : (w : ℕ) → RowWriter w (2 ^ w) (putRow w w) (readRow w w)
+rows-stand w = row-writer w w (omega arith)
 
 module _ (w r c : ℕ) (β : List ℕ) where
-  put-before : (p : ℕ) → p < r * w → getD (putRow w r c β) p 0 ≡ getD β p 0
-  put-before p l = written-before w c β (r * w) w p l
-
-  put-after : (p : ℕ) → suc r * w ≤ p → getD (putRow w r c β) p 0 ≡ getD β p 0
-  put-after p l = written-after w c β (r * w) w p (omega arith)
-
-  put-cells : suc r * w ≤ length β → Cells β (r * w) → Cells (putRow w r c β) (suc r * w)
+  put-cells : suc r * w ≤ length β → Cells β (r * w) → Cells (putRow w w r c β) (suc r * w)
   put-cells f b p l =
-      ⊎-elim (λ (q : p < r * w). rw (put-before p q) (b p q))
+      ⊎-elim (λ (q : p < r * w). rw (rows-stand w .only r c β .above p q) (b p q))
       (λ (q : r * w ≤ p).
-      let e : r * w + (p - r * w) ≡ p = omega arith in
-      subst (λ (x : ℕ). getD (putRow w r c β) x 0 ≤ 1) e (rw (written-cell w c β (r * w) w (p - r * w) (omega arith) (omega arith)) (omega arith)))
+      let k = p - r * w in
+      let e : r * w + k ≡ p = omega arith in
+      subst (λ (x : ℕ). getD (putRow w w r c β) x 0 ≤ 1) e (rw (written-cell (rowCell w c) β (r * w) w k (omega arith) (omega arith)) (cell-small w c k)))
       (lt-or-ge p (r * w))
 
-  put-back : c < 2 ^ w → suc r * w ≤ length β → readRow w r (putRow w r c β) ≡ c
-  put-back l f = reads-back w c β (r * w) l (omega arith)
-
   module _ (h : ℕ) where
-    put-same : r < h → c < 2 ^ w → suc r * w ≤ length β → rowOf w h (putRow w r c β) (suc r) ≡ c
-    put-same q l f = row-inside w h (putRow w r c β) r q ∙ put-back l f
+    put-same : r < h → c < 2 ^ w → suc r * w ≤ length β → rowOf w h (putRow w w r c β) (suc r) ≡ c
+    put-same q l f = reads-as-row w h r (putRow w w r c β) q ∙ rows-stand w .back r c β l f
 
-    put-other : (i : ℕ) → i < r → r < h → rowOf w h (putRow w r c β) (suc i) ≡ rowOf w h β (suc i)
+    put-other : (i : ℕ) → i < r → r < h → rowOf w h (putRow w w r c β) (suc i) ≡ rowOf w h β (suc i)
     put-other i l q =
-        row-inside w h (putRow w r c β) i (omega arith)
-        ∙ same-number (putRow w r c β) β (i * w) w (λ k m. put-before (i * w + k) (omega (arith, mul-le-mul-right w l)))
-        ∙ sym (row-inside w h β i (omega arith))
-
--- a row reads the same from equal bytes
-read-alike : (w r : ℕ) (β γ : List ℕ) → ((p : ℕ) → r * w ≤ p → p < suc r * w → getD β p 0 ≡ getD γ p 0) → readRow w r β ≡ readRow w r γ
-read-alike w r β γ e = same-number β γ (r * w) w (λ k l. e (r * w + k) (omega arith) (omega arith))
-
--- so rows stand in a board, each in its own bytes
-pub row-writer : (w : ℕ) → RowWriter w (2 ^ w) (putRow w) (readRow w)
-row-writer w = record {
-  size = λ r c β. written-length w c β (r * w) w;
-  before = put-before w;
-  after = put-after w;
-  back = put-back w;
-  alike = read-alike w;
-}
+        reads-as-row w h i (putRow w w r c β) (omega arith)
+        ∙ rows-stand w .alike i (putRow w w r c β) β (λ p a b. rows-stand w .only r c β .above p (omega (arith, mul-le-mul-right w l)))
+        ∙ sym (reads-as-row w h i β (omega arith))
 
 -- ---- many rows written
 -- every row is a row's number
@@ -94,39 +73,39 @@ ends-rows G (suc k) a b [] e = absurd e
 ends-rows G (suc k) a b (c ∷ cs) e = (e .0, ends-rows G k b c cs (e .2))
 
 module _ (w : ℕ) where
-  rows-length : (r : ℕ) (cs β : List ℕ) → length (writeRows (putRow w) r cs β) ≡ length β
+  rows-length : (r : ℕ) (cs β : List ℕ) → length (writeRows (putRow w w) r cs β) ≡ length β
   unfolding writeRows
   rows-length r [] β = refl
-  rows-length r (c ∷ cs) β = rows-length (suc r) cs (putRow w r c β) ∙ written-length w c β (r * w) w
+  rows-length r (c ∷ cs) β = rows-length (suc r) cs (putRow w w r c β) ∙ rows-stand w .only r c β .size
 
-  rows-cells : (r : ℕ) (cs β : List ℕ) → (r + length cs) * w ≤ length β → Cells β (r * w) → Cells (writeRows (putRow w) r cs β) ((r + length cs) * w)
+  rows-cells : (r : ℕ) (cs β : List ℕ) → (r + length cs) * w ≤ length β → Cells β (r * w) → Cells (writeRows (putRow w w) r cs β) ((r + length cs) * w)
   unfolding writeRows
   rows-cells r [] β f b = let e : r + 0 ≡ r = omega arith in rw e b
   rows-cells r (c ∷ cs) β f b =
       let e : r + suc (length cs) ≡ suc r + length cs = omega arith in
       let f′ : (suc r + length cs) * w ≤ length β = rw e at f in
-      rw e (rows-cells (suc r) cs (putRow w r c β) (rw (written-length w c β (r * w) w) f′) (put-cells w r c β (omega arith) b))
+      rw e (rows-cells (suc r) cs (putRow w w r c β) (rw (rows-stand w .only r c β .size) f′) (put-cells w r c β (omega arith) b))
 
   module _ (h : ℕ) where
-    rows-before : (r : ℕ) (cs β : List ℕ) → r + length cs ≤ h → (i : ℕ) → i < r → rowOf w h (writeRows (putRow w) r cs β) (suc i) ≡ rowOf w h β (suc i)
+    rows-before : (r : ℕ) (cs β : List ℕ) → r + length cs ≤ h → (i : ℕ) → i < r → rowOf w h (writeRows (putRow w w) r cs β) (suc i) ≡ rowOf w h β (suc i)
     unfolding writeRows
     rows-before r [] β f i l = refl
-    rows-before r (c ∷ cs) β f i l = rows-before (suc r) cs (putRow w r c β) (omega arith) i (omega arith) ∙ put-other w r c β h i l (omega arith)
+    rows-before r (c ∷ cs) β f i l = rows-before (suc r) cs (putRow w w r c β) (omega arith) i (omega arith) ∙ put-other w r c β h i l (omega arith)
 
     rows-back : (r : ℕ) (cs β : List ℕ) → Below (2 ^ w) cs → r + length cs ≤ h → (r + length cs) * w ≤ length β
-        → nextRows w h (writeRows (putRow w) r cs β) r (length cs) ≡ cs
+        → nextRows w h (writeRows (putRow w w) r cs β) r (length cs) ≡ cs
     unfolding writeRows nextRows
     rows-back r [] β b m f = refl
     rows-back r (c ∷ cs) β b m f =
         let e : r + suc (length cs) ≡ suc r + length cs = omega arith in
         let f′ : (suc r + length cs) * w ≤ length β = rw e at f in
         ap₂ (λ (x : ℕ) (y : List ℕ). x ∷ y)
-        (rows-before (suc r) cs (putRow w r c β) (omega arith) r (omega arith) ∙ put-same w r c β h (omega arith) (b .0) (omega arith))
-        (rows-back (suc r) cs (putRow w r c β) (b .1) (omega arith) (rw (written-length w c β (r * w) w) f′))
+        (rows-before (suc r) cs (putRow w w r c β) (omega arith) r (omega arith) ∙ put-same w r c β h (omega arith) (b .0) (omega arith))
+        (rows-back (suc r) cs (putRow w w r c β) (b .1) (omega arith) (rw (rows-stand w .only r c β .size) f′))
 
 -- ---- the rows of an ending, written into a board
 abbrev pub writtenInto : ℕ → List ℕ → List ℕ → List ℕ
-writtenInto w cs β = writeRows (putRow w) 0 cs β
+writtenInto w cs β = writeRows (putRow w w) 0 cs β
 
 module _ {rule : Rule} {w h : ℕ} (z : Frame rule w h) (g cs : List ℕ) (E : Ending (kind rule w h g) h 0 0 cs) (β : List ℕ) (size : length β ≡ w * h) where
   many : 0 + length cs ≡ h

@@ -29,8 +29,9 @@ use Rattle.score_table.proofs.Places.{place-same}
 use Rattle.solver.specs.Grid.{score, Optimal}
 use Rattle.solver.specs.Units.{State, setupOf}
 use Rattle.solver.specs.Demand.{rightUnit, FilledTo, Progress, Of, gridKind}
-use Rattle.solver.proofs.RowLaws.{row-inside, row-none, score-more, score-none}
-use Rattle.solver.proofs.Optimum.{readRow}
+use Rattle.solver.proofs.RowLaws.{row-none, score-more, score-none}
+use Rattle.board_rows.specs.Rows.{readRow}
+use Rattle.board_rows.proofs.Theorems.{reads-as-row}
 use Rattle.solver.proofs.Endings.{kind}
 
 -- the units done are the entries written and the rows chosen
@@ -59,28 +60,28 @@ table-filled rule w h g m t₀ t F = record {
 
 module _ {rule : Rule} {w h : ℕ} (z : Frame rule w h) (g : List ℕ) where
   -- row i, counted from 1
-  row-same : (wanted : List ℕ) (i : ℕ) → i ≤ h → rowAt (readRow w) wanted i ≡ rowOf w h wanted i
+  row-same : (wanted : List ℕ) (i : ℕ) → i ≤ h → rowAt (readRow w w) wanted i ≡ rowOf w h wanted i
   row-same wanted zero l = sym (row-none w h wanted)
-  row-same wanted (suc r) l = sym (row-inside w h wanted r l)
+  row-same wanted (suc r) l = sym (reads-as-row w h r wanted l)
 
   -- what the first k rows of a board are worth is their score
-  worth-score : {wanted : List ℕ} → Board w h wanted → (k : ℕ) → k ≤ h → worthSoFar (setupOf rule w h g) (readRow w) wanted k ≡ score w k g wanted
-  worth-score {wanted} B zero l = worth-none (setupOf rule w h g) (readRow w) wanted ∙ sym (score-none w g wanted)
+  worth-score : {wanted : List ℕ} → Board w h wanted → (k : ℕ) → k ≤ h → worthSoFar (setupOf rule w h g) (readRow w w) wanted k ≡ score w k g wanted
+  worth-score {wanted} B zero l = worth-none (setupOf rule w h g) (readRow w w) wanted ∙ sym (score-none w g wanted)
   worth-score {wanted} B (suc r) l =
       let e : h - suc (h - suc r) ≡ r = omega arith in
-      let m : rowWorth w g ((h - suc (h - suc r)) * w) (readRow w r wanted) ≡ rowWorth w g (r * w) (rowOf w h wanted (suc r)) =
+      let m : rowWorth w g ((h - suc (h - suc r)) * w) (readRow w w r wanted) ≡ rowWorth w g (r * w) (rowOf w h wanted (suc r)) =
       ap₂ (λ (x c : ℕ). rowWorth w g (x * w) c) e (row-same wanted (suc r) l) in
-      worth-more (setupOf rule w h g) (readRow w) wanted r ∙ omega (arith, m, worth-score B r (omega arith), score-more B g r l)
+      worth-more (setupOf rule w h g) (readRow w w) wanted r ∙ omega (arith, m, worth-score B r (omega arith), score-more B g r l)
 
-  carried-score : (wanted : List ℕ) (k x : ℕ) → (0 < k → Optimal rule w h g wanted) → k ≤ h → x ≡ worthSoFar (setupOf rule w h g) (readRow w) wanted k → x ≡ score w k g wanted
-  carried-score wanted zero x o l e = e ∙ worth-none (setupOf rule w h g) (readRow w) wanted ∙ sym (score-none w g wanted)
+  carried-score : (wanted : List ℕ) (k x : ℕ) → (0 < k → Optimal rule w h g wanted) → k ≤ h → x ≡ worthSoFar (setupOf rule w h g) (readRow w w) wanted k → x ≡ score w k g wanted
+  carried-score wanted zero x o l e = e ∙ worth-none (setupOf rule w h g) (readRow w w) wanted ∙ sym (score-none w g wanted)
   carried-score wanted (suc k) x o l e = e ∙ worth-score (o (omega arith) .solution .grid) (suc k) l
 
   pub progress : (wanted : List ℕ) (before now : State) → Of rule w h (now .job) → jobFits (now .job) ≡ true
       → (0 < rowsIn (gridKind rule w h g) (now .job) → Optimal rule w h g wanted)
       → Places.Filled (kind rule w h g) (plan h (2 ^ w * 2 ^ w)) (now .job .units) (before .table) (now .table)
       → Written w (rowsIn (gridKind rule w h g) (now .job)) wanted (before .board) (now .board)
-      → Carried (setupOf rule w h g) (readRow w) (rowsIn (gridKind rule w h g) (now .job)) wanted (aboveOf (now .job .stage)) (lastOf (now .job .stage)) (liveOf (now .job .stage))
+      → Carried (setupOf rule w h g) (readRow w w) (rowsIn (gridKind rule w h g) (now .job)) wanted (aboveOf (now .job .stage)) (lastOf (now .job .stage)) (liveOf (now .job .stage))
       → Progress rule w h g wanted before now
   progress wanted before now O f o F E C =
       let s = now .job .stage in

@@ -1,6 +1,6 @@
 -- Rows and cells: a row's digits are its cells, its worth is what they earn, and a board is its rows.
 -- Assumes nothing.
-use mathlib.Core.Path.{_≡_, refl, sym, _∙_, ap, ap₂}
+use mathlib.Core.Path.{_≡_, refl, sym, _∙_, ap}
 use mathlib.Core.Bool.{Bool, true, false, cond}
 use mathlib.Core.List.{List}
 use Prim.Native.Nat.{ℕ, zero, suc, _+_, _*_, _-_, _/_, _%_, _^_, _≤_, _<_}
@@ -23,25 +23,13 @@ use Rattle.solver.specs.Grid.{score}
 use Rattle.score_table.specs.Rows.{cellWorth, rowWorth}
 
 -- ---- a row's number
--- equal cells read as equal numbers
-pub same-number : (cells others : List ℕ) (at n : ℕ) → ((k : ℕ) → k < n → getD cells (at + k) 0 ≡ getD others (at + k) 0)
-    → rowNumber cells at n ≡ rowNumber others at n
-unfolding rowNumber
-same-number cells others at zero e = refl
-same-number cells others at (suc n) e =
-    ap₂ (λ (x y : ℕ). 2 * x + y) (same-number cells others at n (λ k l. e k (omega arith))) (e n (omega arith))
-
 number-lt : (cells : List ℕ) → ((k : ℕ) → getD cells k 0 ≤ 1) → (at n : ℕ) → rowNumber cells at n < 2 ^ n
 unfolding rowNumber
 number-lt cells small at zero = omega arith
 number-lt cells small at (suc n) = omega (arith, number-lt cells small at n, small (at + n), pow-suc 2 n)
 
--- rows 1 to h are the board's, and those outside are dead
+-- rows outside 1 to h are dead
 module _ (w h : ℕ) (cells : List ℕ) where
-  pub row-inside : (r : ℕ) → r < h → rowOf w h cells (suc r) ≡ rowNumber cells (r * w) w
-  unfolding rowOf
-  row-inside r l = let e : suc r - 1 ≡ r = omega arith in rw (among-yes h (suc r) (omega arith) l, e)
-
   pub row-none : rowOf w h cells 0 ≡ 0
   unfolding rowOf
   row-none = refl

@@ -24,7 +24,7 @@ use Rattle.job.proofs.Next.{due-none, after-entry, after-row, after-none}
 use Rattle.service.specs.Service.{next, spoiled, worksOn, stageSays}
 use Rattle.service.specs.Units.{here, rowStep, markStep, unitBy}
 use Rattle.service.proofs.Calls.{works-none, works-next, works-still, works-spoiled}
-use Rattle.solver.specs.Rows.{written}
+use Rattle.board_rows.specs.Rows.{putRow}
 use Rattle.solver.specs.Units.{State, setupOf, unitOf, grid}
 use Rattle.solver.specs.Inner.{lentState, stepOf, Lent, Chooses, Moves}
 use Rattle.solver.specs.declared.choosing.Stepped.{Stepped}
@@ -100,7 +100,7 @@ module _ (j : Job) (r source : ℕ) (g t β : List ℕ) (C : Chooses j r source 
       sym (unit-choose j g t β r source (C .running) (C .task) ∙ ap (rowStep (setupOf (j .rule) (j .width) (j .height) g) r (lentState j t β)) f)
 
   pub moves-row : (c n : ℕ) → choice ≡ chosen c n → (j′ : Job) → j′ ≡ afterUnit j (Chosen.Row c (rowWorth (j .width) g (r * j .width) c))
-      → Moves j g t β (Stepped.Next j′) t (written (j .width) c β (r * j .width) (j .width))
+      → Moves j g t β (Stepped.Next j′) t (putRow (j .width) (j .width) r c β)
   moves-row c n f j′ q =
       let live = liveOf (j .stage) in
       let l : c < 2 ^ j .width =
@@ -110,7 +110,7 @@ module _ (j : Job) (r source : ℕ) (g t β : List ℕ) (C : Chooses j r source 
       let same : j′ ≡ jobWith j (afterRow (j .height) r c (rowWorth (j .width) g ((j .height - suc (j .height - suc r)) * j .width) c + live) (here j)) =
       q ∙ after-row j (C .lent .taken) (C .running) (C .task) c (rowWorth (j .width) g (r * j .width) c) l (row-worth-le (j .width) g (r * j .width) c)
       ∙ ap (λ (k : ℕ). jobWith j (afterRow (j .height) r c (rowWorth (j .width) g (k * j .width) c + live) (here j))) (sym d) in
-      moved-on (ap (λ (i : Job). next (lentState i t (written (j .width) c β (r * j .width) (j .width)))) same ∙ comes (chosen c n) f)
+      moved-on (ap (λ (i : Job). next (lentState i t (putRow (j .width) (j .width) r c β))) same ∙ comes (chosen c n) f)
 
   pub moves-none : r ≡ 0 → choice ≡ nothing → (j′ : Job) → j′ ≡ afterUnit j Chosen.Nothing → Moves j g t β (Stepped.Next j′) t β
   moves-none z f j′ q =

@@ -1,4 +1,4 @@
--- The third demand holds: a grid's job shows the laws of a kind of job.
+-- The third demand holds, and a unit writes no byte but a row's: a grid's job shows the laws of a kind of job.
 -- Assumes nothing.
 use mathlib.Core.Path.{_≡_, refl, sym, _∙_, ap, subst}
 use mathlib.Core.List.{List}
@@ -18,16 +18,18 @@ use Rattle.elimination.proofs.FillThenChoose.{orderly, scheduled, schedule-leng
 use Rattle.job.specs.Jobs.{boardLength, start, jobSays, readCheck, openRule, jobResultSays}
 use Rattle.job.specs.declared.Job.{Job}
 use Rattle.job.proofs.Shapes.{shape-is}
-use Rattle.job.proofs.Fits.{Frame, start-fits}
+use Rattle.job.proofs.Fits.{Frame, fits-frame, start-fits}
 use Rattle.service.specs.Demand.{Demand}
 use Rattle.service.specs.JobKinds.{aimOf, KindLaws}
+use Rattle.service.proofs.Calls.{work-passed}
 use Rattle.service.proofs.JobKinds.{kind-meets-demand}
+use Rattle.service.proofs.RowUnits.{unit-on-board}
 use Rattle.solver.specs.Working.{lentCheck}
 use Rattle.solver.specs.Units.{unitOf, grid}
 use Rattle.solver.specs.Demand.{gridKind, ThirdDemand}
-use Rattle.solver.specs.Theorems.{allRows}
+use Rattle.solver.specs.Theorems.{allRows, RowsToBoard}
 use Rattle.solver.proofs.Endings.{kind-laws, solution-ends}
-use Rattle.solver.proofs.Optimum.{readRow, row-writer, boardOf, into-same, is-total, optimal}
+use Rattle.solver.proofs.Optimum.{rows-stand, boardOf, into-same, is-total, optimal}
 use Rattle.solver.proofs.CheckLaws.{checks-sound, lent-passed}
 use Rattle.solver.proofs.Machine.{numbered, unit-same}
 use Rattle.solver.proofs.Progress.{progress}
@@ -56,8 +58,7 @@ module _ {rule : Rule} {w h : ℕ} (z : Frame rule w h) (g : List ℕ) where
     room = λ j t β O p. let L = lent-passed j g t β p in (rw (O .wide, O .tall) at (L .0), rw (O .wide, O .tall) at (L .1));
     zero-start = refl;
     all-rows = mul-comm h w;
-    read = readRow w;
-    writer = row-writer w;
+    writer = rows-stand w;
     boardOf = boardOf w h;
     into = λ rows E β size. into-same z g rows E β size;
     best = λ x rows T. (optimal z g x rows T, is-total z g x rows T);
@@ -87,3 +88,11 @@ third-demand rule w h g t β r j O e =
       last = refl;
       live = refl;
     }))
+
+-- ---- a unit and the board
+pub rows-to-board : RowsToBoard
+rows-to-board g s s′ p e =
+    let j = s .job in
+    let q = work-passed grid j g (s .table) (s .board) p in
+    unit-on-board (List ℕ) lentCheck unitOf g (gridKind (j .rule) (j .width) (j .height) g) (kind-shows (fits-frame j (q .0)) g) s s′
+    (record { ruled = refl; wide = refl; tall = refl }) (q .0) (q .1) e

@@ -25,7 +25,7 @@ use Rattle.job.specs.declared.Job.{Job}
 use Rattle.job.proofs.Shapes.{board-long, fill-at, row-at, layer-in}
 use Rattle.job.proofs.Fits.{fits-frame}
 use Rattle.job.proofs.Next.{fits-until}
-use Rattle.solver.proofs.Writing.{written-length}
+use Rattle.solver.proofs.Optimum.{rows-stand}
 use Rattle.solver.proofs.Machine.{follows}
 
 -- ---- the job
@@ -52,7 +52,7 @@ StepLengths t β spoiled = Unit {0}
 
 module _ (rule : Rule) (w h : ℕ) (g : List ℕ) (s : State) where
   row-lengths : (r : ℕ) (o : Choice ℕ) → StepLengths (s .table) (s .board) (rowStep (setupOf rule w h g) r s o)
-  row-lengths r (chosen c n) = record { table = refl; board = written-length w c (s .board) (r * w) w }
+  row-lengths r (chosen c n) = record { table = refl; board = rows-stand w .only r c (s .board) .size }
   row-lengths zero nothing = record { table = refl; board = refl }
   row-lengths (suc r) nothing = tt
 

@@ -15,6 +15,7 @@ use Rattle.rule.specs.declared.Rule.{Rule}
 use Rattle.solver.specs.Grid.{Solution, Optimal, score}
 use Rattle.score_table.specs.ScoreTable.{kindOf, rowsAfter, rowA, rowB, unitPlace}
 use Rattle.board.specs.Checks.{tableSize}
+use Rattle.board_rows.specs.Rows.{readRow}
 use Rattle.life.specs.Rows.{rowOf}
 use Rattle.job.specs.Jobs.{shapeOf, aboveOf, lastOf, liveOf, markOf}
 use Rattle.job.specs.Calls.{Opens}
@@ -76,6 +77,7 @@ gridKind rule w h givens = record {
   shape = shapeOf w h;
   width = w;
   cells = w * h;
+  read = readRow w w;
   Of = Of rule w h;
   Solution = Solution rule w h givens;
   Wanted = Optimal rule w h givens;

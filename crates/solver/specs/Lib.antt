@@ -1,5 +1,4 @@
 pub mod Grid
-pub mod Rows
 pub mod Working
 pub mod Units
 pub mod Calls

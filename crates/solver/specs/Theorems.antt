@@ -1,6 +1,6 @@
 -- What is proved of the rules over the rows of a grid: an ending is a solution, the rows that are chosen are the wanted board, an entry is what
--- document 01, "The score table", says it is, and the wanted board is the best by all live cells too. The third demand is
--- stated in `Demand`, and the round trip in `Calls` of `job`.
+-- document 01, "The score table", says it is, the wanted board is the best by all live cells too, and a unit changes no byte of the board but those
+-- of the row that it chooses. The third demand is stated in `Demand`, and the round trip in `Calls` of `job`.
 -- Assumes nothing.
 use mathlib.Core.Path.{_≡_}
 use mathlib.Core.Bool.{cond}
@@ -9,6 +9,7 @@ use mathlib.Core.List.{List, [], _∷_}
 use Prim.Native.Nat.{ℕ, zero, suc, _+_, _*_, _-_, _^_, _≤_, _<_}
 use lib.Dec.{eqb}
 use lib.ListN.{length, getD}
+use Rattle.board.specs.Answers.{passed}
 use Rattle.board.specs.Boards.{Sized, Board}
 use Rattle.board.specs.Sums.{total}
 use Rattle.elimination.specs.Kind.{entry, rightEntry, rightRows}
@@ -19,6 +20,10 @@ use Rattle.life.specs.Rows.{rowOf}
 use Rattle.solver.specs.Grid.{KeepsGivens, Solution, BestBy, Optimal, score, population}
 use Rattle.score_table.specs.Rows.{rowWorth}
 use Rattle.score_table.specs.ScoreTable.{absent, mostLive, kindOf, readsOf}
+use Rattle.service.specs.Service.{next, workCheck}
+use Rattle.service.specs.RowUnits.{OnBoard}
+use Rattle.solver.specs.Units.{State, unitOf, grid}
+use Rattle.solver.specs.Demand.{gridKind}
 
 -- ---- boards and endings
 -- the k rows of a board that follow row r, as numbers
@@ -87,3 +92,11 @@ GivensApart = (w h : ℕ) (givens board : List ℕ) → KeepsGivens w h givens b
 -- so the wanted board is the best by all live cells too
 abbrev pub SameBest : Type 0
 SameBest = (rule : Rule) (w h : ℕ) (givens board : List ℕ) → Optimal rule w h givens board ↔ BestBy (population w h) rule w h givens board
+
+-- ---- rows go straight to the board
+-- Req 03, of a unit of a call that passed its checks: one of filling changes no byte of the board; one that chooses row k changes no byte outside row
+-- k, and row k then reads as the last row that the job carries. (`ReadsAsRow` of crate `board_rows`: what `readRow` reads is `rowOf`'s row.)
+abbrev pub RowsToBoard : Type 0
+RowsToBoard =
+    (givens : List ℕ) (s s′ : State) → workCheck grid (s .job) givens (s .table) (s .board) ≡ passed → unitOf givens s ≡ next s′
+    → OnBoard (gridKind (s .job .rule) (s .job .width) (s .job .height) givens) (s .job .stage) s s′

@@ -1,7 +1,7 @@
 -- Document 01, "A job and its units": what a unit of a grid's job does, over the numbers that the table then holds, right or not.
 -- Assumes nothing.
 use mathlib.Core.List.{List}
-use Prim.Native.Nat.{ℕ, _*_}
+use Prim.Native.Nat.{ℕ}
 use Rattle.elimination.specs.Job.{Setup}
 use Rattle.elimination.specs.FillThenChoose.{fillThenChoose}
 use Rattle.rule.specs.Rule.{nextUnder}
@@ -9,8 +9,8 @@ use Rattle.rule.specs.declared.Rule.{Rule}
 use Rattle.service.specs.Service.{Service}
 use Rattle.service.specs.Service as Shared
 use Rattle.service.specs.Units.{unitBy}
+use Rattle.board_rows.specs.Rows.{putRow}
 use Rattle.score_table.specs.ScoreTable.{kindOf}
-use Rattle.solver.specs.Rows.{written}
 use Rattle.solver.specs.Working.{lentCheck}
 
 -- a job with the table and the board that it is lent, and what a unit comes to
@@ -20,13 +20,10 @@ State = Shared.State (List ℕ)
 abbrev pub Step : Type 0
 Step = Shared.Step (List ℕ)
 
--- row c is written into its part of the board, with r rows above it
-abbrev pub putRow : ℕ → ℕ → ℕ → List ℕ → List ℕ
-putRow w r c board = written w c board (r * w) w
-
--- a grid's job: the whole table is filled by the rules of a score table, then the rows are chosen
+-- a grid's job: the whole table is filled by the rules of a score table, then the rows are chosen, and each is written into its part of the board; a
+-- row's number has a binary digit for each of its cells
 abbrev pub setupOf : Rule → ℕ → ℕ → List ℕ → Setup ℕ (List ℕ)
-setupOf rule w h givens = fillThenChoose (kindOf (nextUnder rule) w h givens) h (putRow w)
+setupOf rule w h givens = fillThenChoose (kindOf (nextUnder rule) w h givens) h (putRow w w)
 
 -- one unit
 unfoldable pub unitOf : List ℕ → State → Step

@@ -2,12 +2,7 @@
 use job::Chosen;
 use job::Job;
 use score_table::Picked;
-ghost use mathlib.Core.Path.{_≡_};
-ghost use Rattle.board.specs.Boards.{maxWidth};
-ghost use Prim.Native.Nat.{_+_, _≤_};
-ghost use lib.ListN.{length};
 ghost use Rattle.rule.specs.Rule.{Holds, nextUnder};
-ghost use Rattle.solver.specs.Rows.{written};
 ghost use Rattle.solver.specs.Inner.{Chooses, Moves};
 
 // What a unit comes to: the next job; the job has ended; or no row can be chosen after row 1.
@@ -43,18 +38,8 @@ pub fn choose(
             Stepped::Next(job.after(Chosen::Nothing))
         }
         Picked::Row { row, worth } => {
-            write_row(w, row, board, r * w);
+            board_rows::write_row(w, w, r, row, board);
             Stepped::Next(job.after(Chosen::Row { row, worth }))
         }
-    }
-}
-
-// Writes a row's cells into a board from a place on.
-fn write_row(w: usize, row: usize, board: &mut [u8], at: usize)
-    requires { ⌜ (w ≤ maxWidth) × (at + w ≤ length (now board)) ⌝ }
-    ensures { λ _. ⌜ now (board .exit) ≡ written w row (now (board .entry)) at w ⌝ }
-{
-    for k in 0..w {
-        board[at + k] = ((row >> (w - (k + 1))) % 2) as u8;
     }
 }

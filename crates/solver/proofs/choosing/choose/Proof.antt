@@ -1,8 +1,7 @@
 -- `solver::choosing::choose` meets its contract, by the row that is chosen.
 -- Assumes nothing.
 use mathlib.Core.Path.{_≡_, sym, _∙_, ap}
-use Prim.Native.Nat.{ℕ, suc, _+_, _*_, _-_, _≤_}
-use native.Mathlib.Nat.{mul-le-mul}
+use Prim.Native.Nat.{ℕ, suc, _*_, _-_, _≤_}
 use native.Mathlib.Omega.{arith}
 use borrow.Author.Needs.{needs}
 use lib.ListN.{length}
@@ -13,6 +12,7 @@ use Rattle.rule.specs.Rule.{nextUnder}
 use Rattle.job.specs.Jobs.{aboveOf, lastOf}
 use Rattle.score_table.specs.ScoreTable.{kindOf}
 use Rattle.score_table.specs.Calls.{pickedOf}
+use Rattle.board_rows.proofs.Writing.{writes-inside}
 use Rattle.score_table.proofs.Entries.{row-room}
 use Rattle.score_table.proofs.Calls.{picked-nothing, picked-row}
 use Rattle.job.proofs.Next.{fits-rows}
@@ -23,16 +23,11 @@ use Rattle.solver.proofs.choosing.choose.Statement.{statement}
 use Rattle.solver.proofs.choosing.choose.Tie as tie
 
 -- the row's cells are within the board
-cells-room : (b : tie.After-choose-row) → let g = b .before .before .before .before .before .before .args in g .r * g .job .width + g .job .width ≤ length (g .board .now)
+cells-room : (b : tie.After-choose-row) → let g = b .before .before .before .before .before .before .args in suc (g .r) * g .job .width ≤ length (g .board .now)
 cells-room b =
+    let g = b .before .before .before .before .before .before .args in
     let C = b .before .before .before .before .before .before .pre .1 in
-    rw (C .lent .cells) (row-room _ _ _ (row-in C .inside))
-
-cells-le : (b : tie.After-choose-row) → length (b .before .before .before .before .before .before .args .board .now) ≤ 600
-cells-le b =
-    let L = b .before .before .before .before .before .before .pre .1 .lent in
-    let M = lent-memory L in
-    rw (L .cells) (mul-le-mul (M .narrow) (M .low))
+    omega (arith, C .lent .cells, row-room (g .job .width) (g .job .height) (g .r) (row-in C .inside))
 
 -- the rule's choice
 abbrev choice : tie.After-choose-row → Choice ℕ
@@ -78,13 +73,8 @@ after-requires c κs = search needs
 enum-known-row : tie.Need-enum-known-row
 enum-known-row c = search needs
 
-mul-write-row : tie.Need-mul-write-row
-mul-write-row c = let b = c .before .before .before .before in omega (arith, cells-room b, cells-le b)
-
 write-row-requires : tie.Need-write-row-requires
-write-row-requires c κs =
-    let b = c .before .before .before .before in
-    (lent-memory (b .before .before .before .before .before .before .pre .1 .lent) .narrow, cells-room b)
+write-row-requires c κs = search needs
 
 after-requires-2 : tie.Need-after-requires-2
 after-requires-2 c κs = search needs
@@ -103,7 +93,8 @@ returns-3 c =
     let d = c .before .before .before in
     let b = d .before .before .before .before .before in
     let P = picked-row _ _ _ (choice b) _ _ (sym (d .before .before .before .row .given .1) ∙ told b) in
-    rw (d .write-row .ensures) (moves-row _ _ _ _ _ _ (b .before .before .before .before .before .before .pre .1) _ _ (P .is) _ (rw (P .worth) at (c .after2 .ensures)))
+    let e = d .write-row .ensures ∙ writes-inside _ _ _ _ _ (cells-room b) in
+    rw e (moves-row _ _ _ _ _ _ (b .before .before .before .before .before .before .pre .1) _ _ (P .is) _ (rw (P .worth) at (c .after2 .ensures)))
 
 pub choose-spec : {M : Type 1} → statement M
 choose-spec =
@@ -116,7 +107,6 @@ choose-spec =
     returns
     after-requires
     enum-known-row
-    mul-write-row
     write-row-requires
     after-requires-2
     returns-2
