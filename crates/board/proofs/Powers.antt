@@ -1,13 +1,18 @@
--- Powers of 2 and 4 as the code's shifts compute them, and their bounds.
+-- Powers of 2 and 4 as the code's shifts compute them, their bounds, and blocks of equal size, as rows and layers are.
 -- Assumes nothing.
 use mathlib.Core.Path.{_≡_, refl, ap}
 use Prim.Native.Nat.{ℕ, zero, suc, _+_, _*_, _/_, _%_, _^_, _<_, _≤_}
-use native.Mathlib.Nat.{mod-eq-of-lt, one-mul, mul-le-mul, pow-suc, div-lt-iff-lt-mul, le-div-iff-mul-le}
+use native.Mathlib.Nat.{mod-eq-of-lt, one-mul, mul-le-mul, mul-le-mul-right, pow-suc, div-lt-iff-lt-mul, le-div-iff-mul-le}
 use native.Mathlib.Omega.{arith}
 use borrow.Author.Tests.{le-leb}
 use lib.Pow.{pow-pos, pow-mono, pow-add}
 use Rattle.board.specs.Boards.{maxWidth, maxHeight}
 use Rattle.board.specs.Checks.{tableSize, tableSizeWithin}
+
+-- ---- blocks
+-- block j of h blocks of n ends within them
+pub block-room : (j h n : ℕ) → j < h → j * n + n ≤ h * n
+block-room j h n l = omega (arith, mul-le-mul-right n l)
 
 -- ---- 2^w
 pub two-le : {w : ℕ} → w ≤ maxWidth → 2 ^ w ≤ 1024

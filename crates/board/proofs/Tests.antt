@@ -19,6 +19,10 @@ and-right false t e = absurd (true≢false (sym e))
 pub and-true : {s t : Bool} → s ≡ true → t ≡ true → s && t ≡ true
 and-true p q = rw (p, q)
 
+pub and-false : (s : Bool) → s && false ≡ false
+and-false true = refl
+and-false false = refl
+
 pub among-yes : (n i : ℕ) → 0 < i → i ≤ n → among n i ≡ true
 among-yes n i p q = rw (le-leb 1 i p, le-leb i n q)
 

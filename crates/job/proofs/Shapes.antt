@@ -3,14 +3,14 @@
 use mathlib.Core.Path.{_≡_, refl, sym, _∙_, ap, subst}
 use mathlib.Core.Bool.{Bool, true, false, not, true≢false}
 use Prim.Native.Nat.{ℕ, _+_, _*_, _-_, _/_, _%_, _^_, _≤_, _<_}
-use native.Mathlib.Nat.{mul-le-mul, mul-le-mul-right, div-lt-iff-lt-mul, mod-lt}
+use native.Mathlib.Nat.{mul-le-mul, div-lt-iff-lt-mul, mod-lt}
 use native.Mathlib.Omega.{arith}
 use borrow.Author.Tests.{ltb-true, ltb-false, lt-ltb, le-ltb, le-leb, lt-leb}
 use lib.Dec.{ltb, leb}
 use lib.Pow.{pow-pos}
 use Rattle.board.specs.Boards.{maxWidth}
 use Rattle.board.specs.Checks.{tableSize}
-use Rattle.board.proofs.Powers.{four-two, four-pos, four-le, table-one, table-four}
+use Rattle.board.proofs.Powers.{four-two, four-pos, four-le, table-one, table-four, block-room}
 use Rattle.elimination.specs.Task.{fill, row, isFill}
 use Rattle.elimination.specs.FillThenChoose.{plan}
 use Rattle.elimination.specs.Shape.{ShapeLaws, whole}
@@ -108,10 +108,6 @@ row-at w h u r source p = go (ltb u (tableSize w h)) refl
         let b : (u - tableSize w h) * tableSize w 1 ≡ source = cc in
         record { from = l; rows = sym a; layer = sym b ∙ rw (a, table-one w) }
 
--- a layer ends within the table
-layer-end : (x h q : ℕ) → x < h → x * q + q ≤ h * q
-layer-end x h q l = omega (arith, mul-le-mul-right q l)
-
 pub record FillAt (w h k source target j : ℕ) : Type 0 where
   pub after : k < h
   pub inside : j < 4 ^ w
@@ -124,8 +120,8 @@ fill-by w h u l =
     let k : u / 4 ^ w < h = div-lt-iff-lt-mul (four-pos w) .1 l in record {
       after = k;
       inside = mod-lt u (four-pos w);
-      writes = layer-end (h - 1 - u / 4 ^ w) h (4 ^ w) (omega arith);
-      reads = λ z. layer-end (h - u / 4 ^ w) h (4 ^ w) (omega (arith, z));
+      writes = block-room (h - 1 - u / 4 ^ w) h (4 ^ w) (omega arith);
+      reads = λ z. block-room (h - u / 4 ^ w) h (4 ^ w) (omega (arith, z));
     }
 
 pub fill-at : (w h u k source target j : ℕ) → shapeOf w h .plan u ≡ fill k source target j → FillAt w h k source target j
@@ -149,4 +145,4 @@ fill-at w h u k source target j p = go (ltb u (tableSize w h)) refl
 
 pub layer-in : (w h r : ℕ) → r < h → r * 4 ^ w + 4 ^ w ≤ tableSize w h
 unfolding tableSize
-layer-in w h r l = layer-end r h (4 ^ w) l
+layer-in w h r l = block-room r h (4 ^ w) l

@@ -11,14 +11,9 @@ use lib.Arith.{digits-lt}
 use lib.IntN.{ℤ, pos, negsuc, sucℤ, predℤ}
 use lib.ListN.{length, getD, List·getD-eq-default}
 use native.Mathlib.Decide.{decLt}
-use Rattle.board.specs.Boards.{Board}
-use Rattle.board.specs.Boards.{among}
-use Rattle.board.proofs.Tests.{among-yes, among-past}
+use Rattle.board.specs.Boards.{among, Board}
+use Rattle.board.proofs.Tests.{among-yes, among-past, and-false}
 use Rattle.life.specs.Plane.{onPlane, around}
-
-and-false : (b : Bool) → b && false ≡ false
-and-false true = refl
-and-false false = refl
 
 -- ---- rows and columns off the board
 pub data Off (n : ℕ) : ℤ → Type 0 where

@@ -1,21 +1,22 @@
 -- What is printed of a solved grid, by what solving answers.
 -- Assumes nothing.
 use mathlib.Core.Path.{_≡_, refl, sym, _∙_, ap}
-use mathlib.Core.Bool.{Bool, true, false, cond}
+use mathlib.Core.Bool.{Bool}
 use mathlib.Core.List.{List}
 use Prim.Native.Nat.{ℕ, _*_, _≤_, _<_}
 use native.Mathlib.Nat.{mul-le-mul}
 use native.Mathlib.Omega.{arith}
-use borrow.Author.Tests.{ltb-true, ltb-false}
-use lib.Dec.{eqb, ltb, leb}
-use lib.ListN.{length, getD, List·getD-eq-default}
+use lib.Dec.{leb}
+use lib.ListN.{length, getD}
 use Rattle.board.specs.Answers.{Answer, gives, refuses, passed, _then_, refuseUnless}
 use Rattle.board.specs.Boards.{Board}
 use Rattle.board.specs.Checks.{lengthCheck, tableSize, tableCheck}
 use Rattle.board.proofs.Answers.{refuses-none, then-gives, unless-gives}
 use Rattle.board.proofs.Sums.{total-le}
 use Rattle.rule.specs.Rule.{conwayRule, gridCheck}
+use Rattle.life.proofs.OnPlane.{state-small}
 use Rattle.score_table.specs.Rows.{cellWorth}
+use Rattle.score_table.proofs.Marks.{cell-worth-le}
 use Rattle.job.specs.Jobs.{readCheck}
 use Rattle.service.specs.Service.{finished, infeasible}
 use Rattle.solver.specs.Grid.{score}
@@ -37,26 +38,10 @@ check-passed w h g t β e =
     e ∙ unless-passed (leb (tableSize w h) (length t)) 6 (c .1)
 
 -- ---- a board's score is at most its number of cells
-worth-le : (mark cell : ℕ) → cellWorth mark cell ≤ cell
-unfolding cellWorth
-worth-le mark cell = go (eqb mark 1) (eqb mark 2)
-  where
-    go : (s t : Bool) → cond s 0 (cond t 0 cell) ≤ cell
-    go true t = omega arith
-    go false true = omega arith
-    go false false = omega arith
-
-cell-small : {w h : ℕ} {cells : List ℕ} → Board w h cells → (p : ℕ) → getD cells p 0 ≤ 1
-cell-small {w} {h} {cells} B p = go (ltb p (length cells)) refl
-  where
-    go : (t : Bool) → ltb p (length cells) ≡ t → getD cells p 0 ≤ 1
-    go true e = B .bytes .states p (ltb-true _ _ e)
-    go false e = rw (List·getD-eq-default cells 0 (ltb-false p (length cells) e)) (omega arith)
-
 score-le : {w h : ℕ} (g : List ℕ) {cells : List ℕ} → Board w h cells → score w h g cells ≤ w * h
 unfolding score
 score-le {w} {h} g {cells} B =
-    let l = total-le (λ p. cellWorth (getD g p 0) (getD cells p 0)) 1 (λ p. omega (arith, worth-le (getD g p 0) (getD cells p 0), cell-small B p)) (w * h) in
+    let l = total-le (λ p. cellWorth (getD g p 0) (getD cells p 0)) 1 (λ p. omega (arith, cell-worth-le (getD g p 0) (getD cells p 0), state-small B p)) (w * h) in
     omega arith
 
 -- ---- with a score, the board is one, and the score has at most three digits

@@ -38,7 +38,7 @@ pub worth-free : (mark cell : ℕ) → (mark ≡ 1 → ⊥) → (mark ≡ 2 → 
 unfolding cellWorth
 worth-free mark cell p q = rw (ne-eqb mark 1 p, ne-eqb mark 2 q)
 
-cell-worth-le : (mark cell : ℕ) → cellWorth mark cell ≤ cell
+pub cell-worth-le : (mark cell : ℕ) → cellWorth mark cell ≤ cell
 cell-worth-le mark cell = go (mark-is mark)
   where
     go : MarkIs mark → cellWorth mark cell ≤ cell

@@ -9,6 +9,7 @@ use native.Mathlib.Nat.{add-zero}
 use native.Mathlib.Numerals.{add-one}
 use native.Mathlib.Omega.{arith}
 use borrow.Author.Tests.{le-leb, lt-leb, leb-true}
+use Rattle.board.proofs.Tests.{and-false}
 use Rattle.board.proofs.Search.{all-false}
 use Rattle.elimination.specs.Candidates.{Choice, nothing, chosen, scan, consider, noneFound, bestFound}
 use Rattle.elimination.specs.Candidates as Candidates
@@ -24,10 +25,6 @@ use Rattle.score_table.proofs.Marks.{row-worth-le}
 use Rattle.score_table.specs.declared.Want.{Want}
 use Rattle.score_table.specs.declared.best.Best.{Best}
 use Rattle.score_table.specs.declared.best.Best.the-variants.{Nothing, Row}
-
-and-false : (s : Bool) → s && false ≡ false
-and-false true = refl
-and-false false = refl
 
 module _ (want : Want) (next : ℕ → ℕ) (w : ℕ) (givens : List ℕ) (at a b t : ℕ) (read : ℕ → ℕ) where
   abbrev pub G : Kind ℕ

@@ -3,12 +3,13 @@
 use mathlib.Core.Path.{_≡_, refl, sym, ap, _∙_}
 use mathlib.Core.List.{List, [], _∷_, _++_, map, flatMap}
 use Prim.Native.Nat.{ℕ, zero, suc, _+_, _*_, _-_, _<_, _≤_}
-use native.Mathlib.Nat.{not-suc-le-zero, le-of-suc-le-suc, mul-suc, suc-mul, zero-mul, mul-comm, mul-le-mul-right, sub-zero}
+use native.Mathlib.Nat.{not-suc-le-zero, le-of-suc-le-suc, mul-suc, suc-mul, zero-mul, mul-comm, sub-zero}
 use native.Mathlib.Numerals.{add-one}
 use native.Mathlib.Omega.{arith}
 use borrow.Rule.Slice.PartMut.{putMid}
 use lib.ListN.{length, getD, take, drop, length-append, length-map, length-drop, List·getD-append}
 use lib.Seq.{drop-drop, drop-at, getD-append-seam, length-take-le}
+use Rattle.board.proofs.Powers.{block-room}
 use Rattle.writer.specs.Letters.{LF, letterOf}
 use Rattle.writer.specs.Writing.{boardRows, rowText, boardText, textLength}
 use Rattle.writer.specs.Theorems.{TextHasLength}
@@ -35,10 +36,6 @@ unfolding rowText
 text-end r = rw (← length-map r letterOf) (getD-append-seam (map letterOf r) LF [] 0)
 
 -- ---- the rows of a board of width w, and their text
--- block j of h blocks of n ends within them
-pub block-room : (j h n : ℕ) → j < h → j * n + n ≤ h * n
-block-room j h n l = rw (← suc-mul j n) (mul-le-mul-right n l)
-
 module _ (w : ℕ) where
   pub rest-long : (h : ℕ) (b : List ℕ) → length b ≡ w * suc h → (w ≤ length b) × (length (drop w b) ≡ w * h)
   rest-long h b e = let m = mul-suc w h in (omega arith, length-drop w b ∙ (let k : length b - w ≡ w * h = omega arith in k))

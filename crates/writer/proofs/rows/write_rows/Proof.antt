@@ -8,9 +8,10 @@ use native.Mathlib.Omega.{arith}
 use borrow.Author.Needs.{needs}
 use borrow.Rule.Slice.PartMut.{same-len-mid}
 use lib.ListN.{length, length-drop}
+use Rattle.board.proofs.Powers.{block-room}
 use Rattle.writer.specs.Writing.{boardText, textOver}
 use Rattle.writer.proofs.Over.{over, over-all, rest-whole}
-use Rattle.writer.proofs.BoardRows.{board-text-long, block-room, row-whole, row-long, row-written}
+use Rattle.writer.proofs.BoardRows.{board-text-long, row-whole, row-long, row-written}
 use Rattle.writer.proofs.rows.write_rows.Statement.{statement}
 use Rattle.writer.proofs.rows.write_rows.Tie as tie
 
