@@ -1,9 +1,9 @@
 -- Document 01, "Grid, row word, givens": sizes, boards and grids of givens.
 -- Assumes nothing.
 use mathlib.Core.Path.{_≡_}
-use mathlib.Core.Bool.{Bool, _&&_}
+use mathlib.Core.Bool.{Bool, cond, _&&_}
 use mathlib.Core.List.{List}
-use Prim.Native.Nat.{ℕ, _*_, _≤_, _<_}
+use Prim.Native.Nat.{ℕ, _+_, _*_, _-_, _≤_, _<_}
 use lib.Dec.{leb}
 use lib.ListN.{length, getD}
 
@@ -29,6 +29,10 @@ pub record Sized (w h : ℕ) : Type 0 where
 pub record Bytes (most w h : ℕ) (bytes : List ℕ) : Type 0 where
   pub long : length bytes ≡ w * h
   pub states : (k : ℕ) → k < length bytes → getD bytes k 0 ≤ most
+
+-- the byte in row r and column c, both from 1; 0 in every other row and column
+abbrev pub byteAt : ℕ → ℕ → List ℕ → ℕ → ℕ → ℕ
+byteAt w h bytes r c = cond (among h r && among w c) (getD bytes ((r - 1) * w + (c - 1)) 0) 0
 
 -- a board: its cells, 0 dead, 1 live
 pub record Board (w h : ℕ) (cells : List ℕ) : Type 0 where

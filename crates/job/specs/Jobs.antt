@@ -137,12 +137,12 @@ abbrev pub jobOf : Checkpoint → Job
 jobOf t = record { rule = ruleOf t; width = t .width; height = t .height; units = t .units; stage = stageOf t }
 
 -- the checks of what is lent to be read, as opening and working make them: 3, 4
-unfoldable pub readCheck : ℕ → ℕ → List ℕ → Answer
-readCheck w h givens = givensCheck w h givens
+unfoldable pub readCheck : Rule → ℕ → ℕ → List ℕ → Answer
+readCheck rule w h givens = givensCheck w h givens
 
 -- opening: 1, 2, 13, then those
 unfoldable pub openRule : Rule → ℕ → ℕ → List ℕ → Answer
-openRule rule w h givens = gridCheck rule w h then readCheck w h givens then gives (jobSays (start rule w h))
+openRule rule w h givens = gridCheck rule w h then readCheck rule w h givens then gives (jobSays (start rule w h))
 
 -- pausing: 7
 unfoldable pub pauseRule : Job → Answer

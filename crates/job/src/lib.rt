@@ -97,7 +97,7 @@ pub fn open(rule: Rule, width: usize, height: usize, givens: &[u8]) -> JobResult
     if let Check::Refused(r) = rule::check(rule, width, height) {
         return JobResult::Refused(r);
     }
-    if let Check::Refused(r) = check_read(width, height, givens) {
+    if let Check::Refused(r) = check_read(rule, width, height, givens) {
         return JobResult::Refused(r);
     }
     JobResult::Ready(Job {
@@ -114,8 +114,8 @@ pub fn open(rule: Rule, width: usize, height: usize, givens: &[u8]) -> JobResult
 }
 
 // The checks of what is lent to be read, by opening and by working: 3, 4.
-pub fn check_read(width: usize, height: usize, givens: &[u8]) -> Check
-    ensures { λ r. ⌜ checkSays r ≡ readCheck width height (now (givens .entry)) ⌝ }
+pub fn check_read(rule: Rule, width: usize, height: usize, givens: &[u8]) -> Check
+    ensures { λ r. ⌜ checkSays r ≡ readCheck rule width height (now (givens .entry)) ⌝ }
 {
     board::check_givens(width, height, givens)
 }

@@ -1,12 +1,10 @@
 -- Life and its like on the whole plane. Rows and columns are integers; a board stands in rows 1 to h and columns 1 to w, and every other cell is dead.
 -- Assumes nothing.
 use mathlib.Core.Path.{_≡_}
-use mathlib.Core.Bool.{cond, _&&_}
 use mathlib.Core.List.{List}
-use Prim.Native.Nat.{ℕ, _+_, _*_, _-_}
+use Prim.Native.Nat.{ℕ, _+_, _*_}
 use lib.IntN.{ℤ, pos, negsuc, sucℤ, predℤ}
-use lib.ListN.{getD}
-use Rattle.board.specs.Boards.{among}
+use Rattle.board.specs.Boards.{byteAt}
 use Rattle.rule.specs.Rule.{stateUnder, nextState}
 use Rattle.rule.specs.declared.Rule.{Rule}
 
@@ -16,7 +14,7 @@ Plane = ℤ → ℤ → ℕ
 
 -- a board of w × h cells in reading order, on the plane; rows 0 and h + 1, columns 0 and w + 1 are the dead ring
 unfoldable pub onPlane : ℕ → ℕ → List ℕ → Plane
-onPlane w h cells (pos r) (pos c) = cond (among h r && among w c) (getD cells ((r - 1) * w + (c - 1)) 0) 0
+onPlane w h cells (pos r) (pos c) = byteAt w h cells r c
 onPlane w h cells (pos r) (negsuc c) = 0
 onPlane w h cells (negsuc r) c = 0
 

@@ -32,8 +32,8 @@ unless-passed t n e = sym e ∙ rw (unless-gives t n e) refl
 check-passed : (w h : ℕ) (g t β : List ℕ) {values : List ℕ} → solveCheck conwayRule w h g t β ≡ gives values → solveCheck conwayRule w h g t β ≡ passed
 unfolding solveCheck memoryCheck
 check-passed w h g t β e =
-    let a = then-gives (gridCheck conwayRule w h) (readCheck w h g then memoryCheck w h t β) e in
-    let b = then-gives (readCheck w h g) (memoryCheck w h t β) (a .1) in
+    let a = then-gives (gridCheck conwayRule w h) (readCheck conwayRule w h g then memoryCheck w h t β) e in
+    let b = then-gives (readCheck conwayRule w h g) (memoryCheck w h t β) (a .1) in
     let c = then-gives (lengthCheck 5 w h β) (tableCheck w h t) (b .1) in
     e ∙ unless-passed (leb (tableSize w h) (length t)) 6 (c .1)
 

@@ -7,42 +7,33 @@ use Prim.Native.Nat.{ℕ, zero, suc, _*_}
 use borrow.Author.Tests.{eq-eqb, le-leb}
 use lib.ListN.{length}
 use Rattle.board.specs.Answers.{passed}
-use Rattle.board.specs.Boards.{Bytes, Givens}
-use Rattle.rule.specs.Rule.{Allowed}
 use Rattle.rule.specs.declared.Rule.{Rule}
-use Rattle.rule.proofs.Rules.{grid-passes}
 use Rattle.board.specs.Checks.{tableSize}
-use Rattle.job.specs.Jobs.{start, openRule}
+use Rattle.job.specs.Jobs.{start, readCheck}
 use Rattle.service.specs.Service.{next, spoiled, onStep, worksOn, workCheck}
 use Rattle.solver.specs.Working.{lentCheck}
 use Rattle.solver.specs.Units.{State, Step, unitOf, grid}
-use Rattle.job.specs.Calls.{Opens}
 use Rattle.solver.specs.Inner.{Lent}
 use Rattle.job.specs.declared.Job.{Job}
-use Rattle.job.specs.declared.JobResult.{JobResult}
-use Rattle.job.proofs.Fits.{start-fits}
-use Rattle.job.proofs.ReadChecks.{read-passes}
+use Rattle.job.proofs.Fits.{Frame, start-fits}
 use Rattle.solver.proofs.UnitLaws.{unit-fits, unit-lent}
 use Rattle.runner.specs.Solving.{memoryCheck}
 
 -- ---- an opened job
-module _ {rule : Rule} (allowed : Allowed rule) {w h : ℕ} {g : List ℕ} (G : Givens w h g) where
-  pub start-opens : Opens rule w h g (JobResult.Ready (start rule w h))
-  unfolding openRule
-  start-opens = record { says = rw (grid-passes rule (G .size) allowed, read-passes (G .bytes)); job = λ j e. cc }
-
-  pub start-check : (t β : List ℕ) → workCheck grid (start rule w h) g t β ≡ memoryCheck w h t β
-  unfolding workCheck lentCheck memoryCheck
-  start-check t β = rw (start-fits (record { size = G .size; allowed = allowed }), read-passes (G .bytes))
+pub start-check : {rule : Rule} {w h : ℕ} → Frame rule w h → (g : List ℕ) → readCheck rule w h g ≡ passed → (t β : List ℕ)
+    → workCheck grid (start rule w h) g t β ≡ memoryCheck w h t β
+unfolding workCheck lentCheck memoryCheck
+start-check z g read t β = rw (start-fits z, read)
 
 -- ---- a call that passes
-pub check-passes : (j : Job) (g t β : List ℕ) → Bytes 2 (j .width) (j .height) g → Lent j g t β → workCheck grid j g t β ≡ passed
+pub check-passes : (j : Job) (g t β : List ℕ) → readCheck (j .rule) (j .width) (j .height) g ≡ passed → Lent j g t β → workCheck grid j g t β ≡ passed
 unfolding workCheck lentCheck
-check-passes j g t β b L =
-    rw (L .taken, read-passes b, eq-eqb (length β) (j .width * j .height) (L .cells), le-leb (tableSize (j .width) (j .height)) (length t) (L .entries))
+check-passes j g t β read L =
+    rw (L .taken, read, eq-eqb (length β) (j .width * j .height) (L .cells), le-leb (tableSize (j .width) (j .height)) (length t) (L .entries))
 
--- a state of the same grid that passes again
+-- a state of the same rule and grid that passes again
 pub record Kept (g : List ℕ) (s s′ : State) : Type 0 where
+  pub ruled : s′ .job .rule ≡ s .job .rule
   pub width : s′ .job .width ≡ s .job .width
   pub height : s′ .job .height ≡ s .job .height
   pub lent : Lent (s′ .job) g (s′ .table) (s′ .board)
@@ -50,7 +41,7 @@ pub record Kept (g : List ℕ) (s s′ : State) : Type 0 where
 module _ (g : List ℕ) where
   pub works-kept : (n : ℕ) (s : State) → Lent (s .job) g (s .table) (s .board) → Kept g s (worksOn grid g n s .state)
   unfolding worksOn
-  works-kept zero s L = record { width = refl; height = refl; lent = L }
+  works-kept zero s L = record { ruled = refl; width = refl; height = refl; lent = L }
   works-kept (suc n) s L = go (unitOf g s) refl (works-kept n)
     where
       go : (o : Step) → unitOf g s ≡ o → ((s′ : State) → Lent (s′ .job) g (s′ .table) (s′ .board) → Kept g s′ (worksOn grid g n s′ .state))
@@ -58,5 +49,5 @@ module _ (g : List ℕ) where
       go (next s′) e ih =
           let F = unit-fits g s s′ (L .taken) e in
           let K = ih s′ (unit-lent g s s′ L e) in
-          record { width = K .width ∙ F .width; height = K .height ∙ F .height; lent = K .lent }
-      go spoiled e ih = record { width = refl; height = refl; lent = L }
+          record { ruled = K .ruled ∙ F .rule; width = K .width ∙ F .width; height = K .height ∙ F .height; lent = K .lent }
+      go spoiled e ih = record { ruled = refl; width = refl; height = refl; lent = L }

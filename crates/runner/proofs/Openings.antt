@@ -4,14 +4,13 @@ use mathlib.Core.Path.{_≡_, refl, sym, _∙_, ap}
 use mathlib.Core.List.{List}
 use Prim.Native.Nat.{ℕ}
 use Rattle.board.specs.Answers.{Answer, gives, refuses, refusalSays, _then_}
-use Rattle.board.specs.Boards.{Givens}
 use Rattle.board.specs.declared.Refusal.{Refusal}
-use Rattle.board.proofs.Answers.{refuses-none, then-gives}
-use Rattle.rule.specs.Rule.{Allowed, gridCheck}
+use Rattle.board.proofs.Answers.{refuses-none}
+use Rattle.rule.specs.Rule.{gridCheck}
 use Rattle.rule.specs.declared.Rule.{Rule}
-use Rattle.rule.proofs.Rules.{grid-allowed, grid-passes}
+use Rattle.rule.proofs.Rules.{grid-passes}
 use Rattle.job.specs.Jobs.{start, jobSays, readCheck, openRule, jobResultSays}
-use Rattle.job.proofs.ReadChecks.{read-marks, read-passes}
+use Rattle.job.proofs.ReadChecks.{opening-shows}
 use Rattle.job.specs.Calls.{Opens}
 use Rattle.job.specs.declared.Job.{Job}
 use Rattle.job.specs.declared.JobResult.{JobResult}
@@ -29,7 +28,7 @@ module _ {rule : Rule} {w h : ℕ} {g : List ℕ} {o : JobResult} (O : Opens rul
   unfolding openRule solveCheck
   refused-solves {r} e t β =
       let c : solveCheck rule w h g t β ≡ refusalSays r =
-      refused-then (gridCheck rule w h) (readCheck w h g) (jobSays (start rule w h)) (sym (ap jobResultSays e) ∙ O .says) (memoryCheck w h t β) in record {
+      refused-then (gridCheck rule w h) (readCheck rule w h g) (jobSays (start rule w h)) (sym (ap jobResultSays e) ∙ O .says) (memoryCheck w h t β) in record {
         comes = record {
           turned = λ n values q. (sym c ∙ q, refl, refl);
           ended = λ q. absurd (refuses-none (sym c ∙ q));
@@ -38,18 +37,13 @@ module _ {rule : Rule} {w h : ℕ} {g : List ℕ} {o : JobResult} (O : Opens rul
       }
 
   module _ {j : Job} (e : o ≡ JobResult.Ready j) where
-    opened-grid : Givens w h g × Allowed rule
-    unfolding openRule
-    opened-grid =
-        let p = then-gives (gridCheck rule w h) (readCheck w h g then gives (jobSays (start rule w h))) (sym (O .says) ∙ ap jobResultSays e) in
-        let q = then-gives (readCheck w h g) (gives (jobSays (start rule w h))) (p .1) in
-        let r = grid-allowed rule w h (p .0 .1) in
-        (record { size = r .0; bytes = read-marks w h g (q .0 .1) }, r .1)
-
     pub opened-ready : Ready j g
-    opened-ready = rw (O .job j e) (record { fresh = refl; allowed = opened-grid .1; grid = opened-grid .0 })
+    opened-ready =
+        let q = O .job j e in
+        rw q (rw (e, q) at O)
 
     pub run-solves : {t β t′ β′ : List ℕ} {r : Solved} → Runs j g t β r t′ β′ → Solves rule w h g t β r t′ β′
     unfolding solveCheck
     run-solves R =
-        record { comes = rw (grid-passes rule (opened-grid .0 .size) (opened-grid .1), read-passes (opened-grid .0 .bytes)) (rw (O .job j e) at (R .comes)) }
+        let z = opening-shows rule w h g (sym (O .says) ∙ ap jobResultSays e) in
+        record { comes = rw (grid-passes rule (z .0 .size) (z .0 .allowed), z .1) (rw (O .job j e) at (R .comes)) }

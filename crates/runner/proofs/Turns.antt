@@ -8,13 +8,11 @@ use native.Mathlib.Omega.{arith}
 use borrow.Author.Tests.{leb-true, leb-false}
 use lib.Dec.{leb}
 use Rattle.board.specs.Answers.{Answer, gives, refuses, passed}
-use Rattle.board.specs.Boards.{Givens}
 use Rattle.board.proofs.Answers.{refuses-none}
-use Rattle.rule.specs.Rule.{Allowed}
 use Rattle.rule.specs.declared.Rule.{Rule}
 use Rattle.solver.specs.Grid.{score}
 use Rattle.board.specs.Checks.{tableSize}
-use Rattle.job.specs.Jobs.{boardLength, noneLength, start}
+use Rattle.job.specs.Jobs.{boardLength, noneLength, start, readCheck}
 use Rattle.service.specs.Service.{workCheck, workOf, unfinished, finished, infeasible}
 use Rattle.service.specs.Laws.{Checked}
 use Rattle.solver.specs.Units.{State, grid}
@@ -23,15 +21,18 @@ use Rattle.solver.specs.Inner.{lentState}
 use Rattle.service.specs.Demand.{Call, work, afterWork, afterCall, run, Each, Fair, counted, allowed, summed, Answers, Served, Outcome, solved, unsolvable}
 use Rattle.service.specs.JobKinds.{aimOf}
 use Rattle.solver.specs.Demand.{FilledTo, gridKind, ThirdDemand}
+use Rattle.job.specs.Calls.{Opens}
 use Rattle.job.specs.declared.Job.{Job}
 use Rattle.job.specs.declared.JobResult.{JobResult}
 use Rattle.solver.proofs.CheckLaws.{work-checked, lent-of}
 use Rattle.job.proofs.Shapes.{table-pos}
+use Rattle.job.proofs.Fits.{Frame}
+use Rattle.job.proofs.ReadChecks.{opening-shows}
 use Rattle.solver.proofs.Third.{third-demand}
 use Rattle.runner.specs.Solving.{memoryCheck, solvedSays, Ends, best, none, SolvesTo, Ready, Runs}
 use Rattle.runner.specs.declared.Solved.{Solved}
 use Rattle.runner.proofs.Appending.{run-append, summed-append, each-append, each-last}
-use Rattle.runner.proofs.Memory.{start-opens, start-check, check-passes, Kept, works-kept}
+use Rattle.runner.proofs.Memory.{start-check, check-passes, Kept, works-kept}
 
 -- ---- a list of calls
 -- the opened job with its memory
@@ -50,6 +51,7 @@ pub record Going (rule : Rule) (w h : ℕ) (g t₀ β₀ : List ℕ) (s : State)
   pub comes : run grid calls (opened rule w h t₀ β₀) ≡ s
   pub sum : summed grid calls (opened rule w h t₀ β₀) ≡ s .job .units
   pub below : s .job .units < boardLength w h
+  pub ruled : s .job .rule ≡ rule
   pub width : s .job .width ≡ w
   pub height : s .job .height ≡ h
   pub check : checkIn g s ≡ memoryCheck w h t₀ β₀
@@ -126,7 +128,13 @@ solved-ends (Solved.Best score) e = let z : _≡_ {A = ℕ} 0 1 = cc in omega ar
 solved-ends Solved.Infeasible e = let z : _≡_ {A = ℕ} 0 1 = cc in omega arith
 solved-ends (Solved.Refused r) e = refuses-none e
 
-module _ {rule : Rule} (permitted : Allowed rule) {w h : ℕ} {g : List ℕ} (G : Givens w h g) (t₀ β₀ : List ℕ) where
+module _ {rule : Rule} {w h : ℕ} {g : List ℕ} (O : Opens rule w h g (JobResult.Ready (start rule w h))) (t₀ β₀ : List ℕ) where
+  opened-frame : Frame rule w h
+  opened-frame = opening-shows rule w h g (sym (O .says)) .0
+
+  opened-read : readCheck rule w h g ≡ passed
+  opened-read = opening-shows rule w h g (sym (O .says)) .1
+
   abbrev s₀ : State
   s₀ = opened rule w h t₀ β₀
 
@@ -138,10 +146,11 @@ module _ {rule : Rule} (permitted : Allowed rule) {w h : ℕ} {g : List ℕ} (G 
     fair = tt;
     comes = refl;
     sum = refl;
-    below = omega (arith, table-pos w h (G .size .some-row));
+    below = omega (arith, table-pos w h (opened-frame .size .some-row));
+    ruled = refl;
     width = refl;
     height = refl;
-    check = start-check permitted G t₀ β₀;
+    check = start-check opened-frame g opened-read t₀ β₀;
     same = λ n values e. (refl, refl);
   }
 
@@ -185,21 +194,21 @@ module _ {rule : Rule} (permitted : Allowed rule) {w h : ℕ} {g : List ℕ} (G 
 
       turns : Turned rule w h g t₀ β₀ n s (turn g n s)
       unfolding ThirdDemand tableSize
-      turns = go (third-demand rule w h g t₀ β₀ (JobResult.Ready (start rule w h)) (start rule w h) (start-opens permitted G) refl longer longer-fair)
+      turns = go (third-demand rule w h g t₀ β₀ (JobResult.Ready (start rule w h)) (start rule w h) O refl longer longer-fair)
         where
           go : Outcome grid (aimOf (gridKind rule w h g)) longer s₀ → Turned rule w h g t₀ β₀ n s (turn g n s)
           go (solved board final O S) =
               served-turns (boardLength w h) final board (omega arith) (omega arith) (λ e. let z : _≡_ {A = ℕ} 0 1 = cc in omega arith)
               (λ says β e q. best (rw q (O .wanted)) (e ∙ O .says ∙ ap (λ (b : List ℕ). finished (score w h g b)) (sym q))) S
           go (unsolvable f S) =
-              served-turns (noneLength w h) infeasible β₀ (omega arith) (omega (arith, G .size .some-row)) (λ e. let z : _≡_ {A = ℕ} 0 1 = cc in omega arith)
+              served-turns (noneLength w h) infeasible β₀ (omega arith) (omega (arith, opened-frame .size .some-row)) (λ e. let z : _≡_ {A = ℕ} 0 1 = cc in omega arith)
               (λ says β e q. none f e q) S
 
     -- a turn that ends nothing passed its checks
     unfinished-passed : turn g n s .answer ≡ unfinished → checkIn g s ≡ passed
     unfinished-passed u = go (checkIn g s) refl (work-checked (s .job) g (s .table) (s .board))
       where
-        go : (a : Answer) → checkIn g s ≡ a → Checked a → checkIn g s ≡ passed
+        go : (a : Answer) → checkIn g s ≡ a → Checked 9 a → checkIn g s ≡ passed
         go (gives values) e c = e ∙ ap gives c
         go (refuses k values) e c = absurd (refuses-none (sym (ap answerOf (refused-turn g n s e)) ∙ u))
 
@@ -217,10 +226,12 @@ module _ {rule : Rule} (permitted : Allowed rule) {w h : ℕ} {g : List ℕ} (G 
             comes = longer-comes p;
             sum = longer-sum p ∙ omega (arith, T .units);
             below = omega (arith, T .most);
+            ruled = K .ruled ∙ P .ruled;
             width = K .width ∙ P .width;
             height = K .height ∙ P .height;
             check =
-                check-passes (turn g n s .state .job) g (turn g n s .state .table) (turn g n s .state .board) (rw (K .width ∙ P .width, K .height ∙ P .height) (G .bytes)) (K .lent)
+                check-passes (turn g n s .state .job) g (turn g n s .state .table) (turn g n s .state .board) (rw (K .ruled ∙ P .ruled, K .width ∙ P .width, K .height ∙ P .height) opened-read)
+                (K .lent)
                 ∙ sym c;
             same = λ k values e. absurd (refuses-none (sym e ∙ c));
           };
@@ -245,15 +256,21 @@ module _ {rule : Rule} (permitted : Allowed rule) {w h : ℕ} {g : List ℕ} (G 
     }
 
 -- ---- an opened job
-module _ {j : Job} {g t₀ β₀ : List ℕ} (R : Ready j g) where
+module _ {j : Job} {g : List ℕ} (R : Ready j g) where
+  fresh : j ≡ start (j .rule) (j .width) (j .height)
+  fresh = R .job j refl
+
+  opens : Opens (j .rule) (j .width) (j .height) g (JobResult.Ready (start (j .rule) (j .width) (j .height)))
+  opens = subst (λ (x : Job). Opens (j .rule) (j .width) (j .height) g (JobResult.Ready x)) fresh R
+
   -- no call yet
-  pub ready-begins : Going (j .rule) (j .width) (j .height) g t₀ β₀ (lentState j t₀ β₀)
-  ready-begins = subst (λ (x : Job). Going (j .rule) (j .width) (j .height) g t₀ β₀ (lentState x t₀ β₀)) (sym (R .fresh)) (begins (R .allowed) (R .grid) t₀ β₀)
+  pub ready-begins : {t₀ β₀ : List ℕ} → Going (j .rule) (j .width) (j .height) g t₀ β₀ (lentState j t₀ β₀)
+  ready-begins {t₀} {β₀} = subst (λ (x : Job). Going (j .rule) (j .width) (j .height) g t₀ β₀ (lentState x t₀ β₀)) (sym fresh) (begins opens t₀ β₀)
 
   -- what a turn hands back
-  module _ {s : State} (P : Going (j .rule) (j .width) (j .height) g t₀ β₀ s) (n : ℕ) {r : Result} (is : r ≡ turn g n s) where
+  module _ {t₀ β₀ : List ℕ} {s : State} (P : Going (j .rule) (j .width) (j .height) g t₀ β₀ s) (n : ℕ) {r : Result} (is : r ≡ turn g n s) where
     pub turn-goes-on : 0 < n → r .answer ≡ unfinished → Goes (j .rule) (j .width) (j .height) g t₀ β₀ s (r .state)
-    turn-goes-on some u = rw is (goes-on (R .allowed) (R .grid) t₀ β₀ n s P some (rw is at u))
+    turn-goes-on some u = rw is (goes-on opens t₀ β₀ n s P some (rw is at u))
 
     pub turn-ends : {o : Solved} → r .answer ≡ solvedSays o → Runs j g t₀ β₀ o (r .state .table) (r .state .board)
-    turn-ends {o} e = record { comes = rw (← e, is) (ends (R .allowed) (R .grid) t₀ β₀ n s P (λ u. solved-ends o (sym e ∙ ap answerOf is ∙ u))) }
+    turn-ends {o} e = record { comes = rw (← e, is) (ends opens t₀ β₀ n s P (λ u. solved-ends o (sym e ∙ ap answerOf is ∙ u))) }

@@ -4,15 +4,16 @@ use mathlib.Core.Path.{_≡_}
 use mathlib.Core.List.{List}
 use Prim.Native.Nat.{ℕ}
 use Rattle.board.specs.Answers.{Answer, refuses, passed, refusalSays, _then_}
-use Rattle.board.specs.Boards.{Givens}
 use Rattle.board.specs.Checks.{lengthCheck, tableSize, tableCheck}
-use Rattle.rule.specs.Rule.{Allowed, gridCheck}
+use Rattle.rule.specs.Rule.{gridCheck}
 use Rattle.rule.specs.declared.Rule.{Rule}
 use Rattle.solver.specs.Grid.{Solution, Optimal, score}
-use Rattle.job.specs.Jobs.{start, readCheck}
+use Rattle.job.specs.Jobs.{readCheck}
+use Rattle.job.specs.Calls.{Opens}
 use Rattle.service.specs.Service.{finished, infeasible}
 use Rattle.solver.specs.Demand.{FilledTo}
 use Rattle.job.specs.declared.Job.{Job}
+use Rattle.job.specs.declared.JobResult.{JobResult}
 use Rattle.runner.specs.declared.Solved.{Solved}
 
 -- the paper's number and values of each answer: those of a job that ended
@@ -27,7 +28,7 @@ memoryCheck w h table board = lengthCheck 5 w h board then tableCheck w h table
 
 -- its checks: 1, 2, 13, 3, 4 as opening, then those
 unfoldable pub solveCheck : Rule → ℕ → ℕ → List ℕ → List ℕ → List ℕ → Answer
-solveCheck rule w h givens table board = gridCheck rule w h then readCheck w h givens then memoryCheck w h table board
+solveCheck rule w h givens table board = gridCheck rule w h then readCheck rule w h givens then memoryCheck w h table board
 
 -- the board that is left is the wanted one, and the answer its score; or there is no still board that keeps the givens, the answer says so, and
 -- the board is unwritten
@@ -46,11 +47,9 @@ pub record Solves (rule : Rule) (w h : ℕ) (givens table board : List ℕ) (r :
   pub comes : SolvesTo (solveCheck rule w h givens table board) rule w h givens table board (solvedSays r) table′ board′
 
 -- ---- the inner function
--- an opened job and its givens
-pub record Ready (j : Job) (givens : List ℕ) : Type 0 where
-  pub fresh : j ≡ start (j .rule) (j .width) (j .height)
-  pub allowed : Allowed (j .rule)
-  pub grid : Givens (j .width) (j .height) givens
+-- a job that opening hands out for these givens
+abbrev pub Ready : Job → List ℕ → Type 0
+Ready j givens = Opens (j .rule) (j .width) (j .height) givens (JobResult.Ready j)
 
 pub record Runs (j : Job) (givens table board : List ℕ) (r : Solved) (table′ board′ : List ℕ) : Type 0 where
   pub comes : SolvesTo (memoryCheck (j .width) (j .height) table board) (j .rule) (j .width) (j .height) givens table board (solvedSays r) table′ board′

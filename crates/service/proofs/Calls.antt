@@ -3,9 +3,10 @@
 use mathlib.Core.Path.{_≡_, refl, sym, _∙_, ap}
 use mathlib.Core.Bool.{Bool, true, false}
 use mathlib.Core.List.{List, []}
+use mathlib.Core.Option.{Option, none, some}
 use Prim.Native.Nat.{ℕ, zero, suc}
 use native.Mathlib.Omega.{arith}
-use Rattle.board.specs.Answers.{Answer, gives, refuses, _then_, refuseUnless}
+use Rattle.board.specs.Answers.{Answer, gives, refuses, _then_, refuseUnless, refuseAt}
 use Rattle.board.proofs.Answers.{refuses-none, then-gives, unless-gives}
 use Rattle.job.specs.Jobs.{jobFits, checkpointFits, checkpointSays, jobOf, pauseRule, resumeRule}
 use Rattle.job.specs.declared.Stage.{Stage}
@@ -43,18 +44,23 @@ module _ (S : Service) (given : S .Given) where
   works-still (suc n) s e = works-next n s s e ∙ works-still n s e
 
 -- ---- checks
-pub checked-then : (a b : Answer) → Checked a → Checked b → Checked (a then b)
-checked-then (gives values) b p q = q
-checked-then (refuses n values) b p q = p
+module _ (n : ℕ) where
+  pub checked-then : (a b : Answer) → Checked n a → Checked n b → Checked n (a then b)
+  checked-then (gives values) b p q = q
+  checked-then (refuses m values) b p q = p
 
-pub checked-unless : (t : Bool) (n : ℕ) → (n ≡ 9 → ⊥) → Checked (refuseUnless t n)
-checked-unless true n f = refl
-checked-unless false n f = f
+  pub checked-unless : (t : Bool) (m : ℕ) → (m ≡ n → ⊥) → Checked n (refuseUnless t m)
+  checked-unless true m f = refl
+  checked-unless false m f = f
+
+  pub checked-at : (o : Option ℕ) (m : ℕ) → (m ≡ n → ⊥) → Checked n (refuseAt o m)
+  checked-at none m f = refl
+  checked-at (some i) m f = f
 
 module _ (S : Service) (j : Job) (given : S .Given) (table : S .Table) (board : List ℕ) where
-  pub work-checked : ChecksSound S → Checked (workCheck S j given table board)
+  pub work-checked : ChecksSound S → Checked 9 (workCheck S j given table board)
   unfolding workCheck
-  work-checked C = checked-then (refuseUnless (jobFits j) 7) (S .check j given table board) (checked-unless (jobFits j) 7 (λ e. omega arith)) (C j given table board)
+  work-checked C = checked-then 9 (refuseUnless (jobFits j) 7) (S .check j given table board) (checked-unless 9 (jobFits j) 7 (λ e. omega arith)) (C j given table board)
 
   -- a job that pausing turns away is turned away here, with the same refusal
   pub pause-refused : {n : ℕ} {us : List ℕ} → refuses n us ≡ pauseRule j → refuses n us ≡ workCheck S j given table board

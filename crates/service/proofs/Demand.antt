@@ -64,7 +64,7 @@ module _ (S : Service) (A : Aim (S .Table)) (given : S .Given) (s : State (S .Ta
       → (cs : List (Call S)) → Each S (Fair S given) cs s → Served S A long final wanted cs s
   either long final wanted pos course cs f = go (S .check (s .job) given (s .table) (s .board)) refl (L .checks (s .job) given (s .table) (s .board))
     where
-      go : (a : Answer) → S .check (s .job) given (s .table) (s .board) ≡ a → Checked a → Served S A long final wanted cs s
+      go : (a : Answer) → S .check (s .job) given (s .table) (s .board) ≡ a → Checked 9 a → Served S A long final wanted cs s
       go (gives values) e c = served long final wanted (course (e ∙ ap gives c)) cs f
       go (refuses n values) e c = idle-served (λ p. refuses-none (sym e ∙ p)) long final wanted pos cs f
 

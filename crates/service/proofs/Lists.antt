@@ -78,7 +78,7 @@ module _ (S : Service) (A : Aim (S .Table)) (checks : ChecksSound S) {given : S 
       reached : Reached (m + counted a n) (afterWork a (workBy S a g n lent .state) s)
       answers : WorkAnswers S long final a lent (workBy S a g n lent)
 
-    work-called : (a : Answer) → (a ≡ passed → (g ≡ given) × (t ≡ s .table) × (β ≡ s .board)) → Checked a → WorkCalled a
+    work-called : (a : Answer) → (a ≡ passed → (g ≡ given) × (t ≡ s .table) × (β ≡ s .board)) → Checked 9 a → WorkCalled a
     work-called (gives values) f c =
         let same = f (ap gives c) in
         let e : worksOn S g n lent ≡ worksOn S given n s =
@@ -133,7 +133,7 @@ module _ (S : Service) (checks : ChecksSound S) (given : S .Given) (s : State (S
       sum : counted a n ≡ 0
       answers : WorkAnswers S long final a brought (workBy S a g n brought)
 
-    work-waits : (a : Answer) → workCheck S (s .job) g t β ≡ a → (a ≡ passed → (g ≡ given) × (t ≡ s .table) × (β ≡ s .board)) → Checked a → WorkWaits a
+    work-waits : (a : Answer) → workCheck S (s .job) g t β ≡ a → (a ≡ passed → (g ≡ given) × (t ≡ s .table) × (β ≡ s .board)) → Checked 9 a → WorkWaits a
     work-waits (gives values) e f c =
         let same = f (ap gives c) in
         let p = work-passed S (s .job) g t β (e ∙ ap gives c) .1 in

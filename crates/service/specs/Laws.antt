@@ -11,14 +11,14 @@ use Rattle.job.specs.declared.Job.{Job}
 use Rattle.service.specs.Service.{unfinished, infeasible, stageSays, State, next, spoiled, Service}
 use Rattle.service.specs.Demand.{Aim, Demand}
 
--- nothing, or a refusal other than 9
-abbrev pub Checked : Answer → Type 0
-Checked (gives values) = values ≡ []
-Checked (refuses n values) = n ≡ 9 → ⊥
+-- what a check says that never answers n: nothing, or another refusal
+abbrev pub Checked : ℕ → Answer → Type 0
+Checked n (gives values) = values ≡ []
+Checked n (refuses m values) = m ≡ n → ⊥
 
--- the checks of a service answer so
+-- the checks of a service never answer 9
 abbrev pub ChecksSound : Service → Type 0
-ChecksSound S = (j : Job) (given : S .Given) (table : S .Table) (board : List ℕ) → Checked (S .check j given table board)
+ChecksSound S = (j : Job) (given : S .Given) (table : S .Table) (board : List ℕ) → Checked 9 (S .check j given table board)
 
 -- A job's units are a machine's units: seen as one of the machine's states, while it is where it may be.
 pub record Follows (S : Service) (given : S .Given) {W : Type 0} (M : Machine W) : Type 1 where

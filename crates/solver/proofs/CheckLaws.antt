@@ -1,31 +1,26 @@
 -- What the checks of a working call say: nothing, or a refusal other than 9; and what they have shown where they pass.
 -- Assumes nothing.
-use mathlib.Core.Path.{_≡_, refl}
+use mathlib.Core.Path.{_≡_}
 use mathlib.Core.List.{List}
-use mathlib.Core.Option.{Option, none, some}
 use Prim.Native.Nat.{ℕ, _*_, _≤_}
 use native.Mathlib.Omega.{arith}
 use borrow.Author.Tests.{leb-true, eqb-true}
 use lib.Dec.{leb, eqb}
 use lib.ListN.{length}
 use Rattle.board.specs.Search.{firstNot}
-use Rattle.board.specs.Answers.{Answer, gives, refuses, _then_, refuseAt}
+use Rattle.board.specs.Answers.{Answer, gives, refuses, _then_}
 use Rattle.board.specs.Checks.{givensCheck, lengthCheck, bytesCheck, atMost, tableSize, tableCheck}
 use Rattle.board.proofs.Answers.{then-gives, unless-gives}
 use Rattle.job.specs.Jobs.{pauseRule, readCheck}
 use Rattle.job.proofs.ReadChecks.{read-marks}
 use Rattle.service.specs.Service.{workCheck}
 use Rattle.service.specs.Laws.{Checked, ChecksSound}
-use Rattle.service.proofs.Calls.{checked-then, checked-unless, work-passed}
+use Rattle.service.proofs.Calls.{checked-then, checked-unless, checked-at, work-passed}
 use Rattle.service.proofs.Calls as Shared
 use Rattle.solver.specs.Working.{lentCheck}
 use Rattle.solver.specs.Units.{grid}
 use Rattle.solver.specs.Inner.{Lent}
 use Rattle.job.specs.declared.Job.{Job}
-
-checked-at : (o : Option ℕ) (n : ℕ) → (n ≡ 9 → ⊥) → Checked (refuseAt o n)
-checked-at none n f = refl
-checked-at (some i) n f = f
 
 -- a job that pausing turns away is turned away here, with the same refusal
 pub pause-refused : (j : Job) (g t β : List ℕ) {n : ℕ} {us : List ℕ} → refuses n us ≡ pauseRule j → refuses n us ≡ workCheck grid j g t β
@@ -38,24 +33,24 @@ module _ (j : Job) (g t β : List ℕ) where
   abbrev cellsCheck : Answer
   cellsCheck = lengthCheck 5 (j .width) (j .height) β
 
-  read-checked : Checked (readCheck (j .width) (j .height) g)
+  read-checked : Checked 9 (readCheck (j .rule) (j .width) (j .height) g)
   unfolding readCheck givensCheck
   read-checked =
-      checked-then (lengthCheck 3 (j .width) (j .height) g) (bytesCheck 4 2 g) (checked-unless (eqb (length g) (j .width * j .height)) 3 (λ e. omega arith))
-      (checked-at (firstNot (atMost 2 g) (length g)) 4 (λ e. omega arith))
+      checked-then 9 (lengthCheck 3 (j .width) (j .height) g) (bytesCheck 4 2 g) (checked-unless 9 (eqb (length g) (j .width * j .height)) 3 (λ e. omega arith))
+      (checked-at 9 (firstNot (atMost 2 g) (length g)) 4 (λ e. omega arith))
 
-  lent-checked : Checked (lentCheck j g t β)
+  lent-checked : Checked 9 (lentCheck j g t β)
   unfolding lentCheck
   lent-checked =
-      checked-then (readCheck (j .width) (j .height) g) (cellsCheck then entriesCheck) read-checked
-      (checked-then cellsCheck entriesCheck (checked-unless (eqb (length β) (j .width * j .height)) 5 (λ e. omega arith))
-      (checked-unless (leb (tableSize (j .width) (j .height)) (length t)) 6 (λ e. omega arith)))
+      checked-then 9 (readCheck (j .rule) (j .width) (j .height) g) (cellsCheck then entriesCheck) read-checked
+      (checked-then 9 cellsCheck entriesCheck (checked-unless 9 (eqb (length β) (j .width * j .height)) 5 (λ e. omega arith))
+      (checked-unless 9 (leb (tableSize (j .width) (j .height)) (length t)) 6 (λ e. omega arith)))
 
   -- what they have shown where they pass
   pub lent-passed : {values : List ℕ} → lentCheck j g t β ≡ gives values → (length β ≡ j .width * j .height) × (tableSize (j .width) (j .height) ≤ length t)
   unfolding lentCheck
   lent-passed e =
-      let b = then-gives (readCheck (j .width) (j .height) g) (cellsCheck then entriesCheck) e in
+      let b = then-gives (readCheck (j .rule) (j .width) (j .height) g) (cellsCheck then entriesCheck) e in
       let c = then-gives cellsCheck entriesCheck (b .1) in (
         eqb-true (length β) (j .width * j .height) (unless-gives (eqb (length β) (j .width * j .height)) 5 (c .0 .1)),
         leb-true (tableSize (j .width) (j .height)) (length t) (unless-gives (leb (tableSize (j .width) (j .height)) (length t)) 6 (c .1)),
@@ -65,12 +60,12 @@ module _ (j : Job) (g t β : List ℕ) where
   unfolding lentCheck
   lent-of e =
       let p = work-passed grid j g t β e in
-      let b = then-gives (readCheck (j .width) (j .height) g) (cellsCheck then entriesCheck) (p .1) in
+      let b = then-gives (readCheck (j .rule) (j .width) (j .height) g) (cellsCheck then entriesCheck) (p .1) in
       let c = lent-passed (p .1) in
-      record { taken = p .0; marks = read-marks (j .width) (j .height) g (b .0 .1) .long; cells = c .0; entries = c .1 }
+      record { taken = p .0; marks = read-marks (j .rule) (j .width) (j .height) g (b .0 .1) .long; cells = c .0; entries = c .1 }
 
 pub checks-sound : ChecksSound grid
 checks-sound j g t β = lent-checked j g t β
 
-pub work-checked : (j : Job) (g t β : List ℕ) → Checked (workCheck grid j g t β)
+pub work-checked : (j : Job) (g t β : List ℕ) → Checked 9 (workCheck grid j g t β)
 work-checked j g t β = Shared.work-checked grid j g t β checks-sound

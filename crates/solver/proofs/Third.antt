@@ -6,19 +6,16 @@ use Prim.Native.Nat.{ℕ, _+_, _*_, _^_, _<_}
 use native.Mathlib.Nat.{mul-le-mul, mul-comm}
 use native.Mathlib.Omega.{arith}
 use lib.Pow.{pow-pos}
-use Rattle.board.specs.Answers.{gives, _then_}
-use Rattle.board.proofs.Answers.{then-gives}
 use Rattle.board.proofs.Powers.{four-two, table-four}
-use Rattle.rule.specs.Rule.{gridCheck}
 use Rattle.rule.specs.declared.Rule.{Rule}
-use Rattle.rule.proofs.Rules.{grid-allowed}
 use Rattle.elimination.specs.FillThenChoose.{schedule}
 use Rattle.elimination.specs.Shape.{Shape}
 use Rattle.elimination.proofs.FillThenChoose.{orderly, scheduled, schedule-lengths}
-use Rattle.job.specs.Jobs.{boardLength, start, jobSays, readCheck, openRule, jobResultSays}
+use Rattle.job.specs.Jobs.{boardLength, start, jobResultSays}
 use Rattle.job.specs.declared.Job.{Job}
 use Rattle.job.proofs.Shapes.{shape-is}
 use Rattle.job.proofs.Fits.{Frame, fits-frame, start-fits}
+use Rattle.job.proofs.ReadChecks.{opening-shows}
 use Rattle.service.specs.Demand.{Demand}
 use Rattle.service.specs.JobKinds.{aimOf, KindLaws}
 use Rattle.service.proofs.Calls.{work-passed}
@@ -67,17 +64,10 @@ module _ {rule : Rule} {w h : ℕ} (z : Frame rule w h) (g : List ℕ) where
   }
 
 -- ---- the theorem
--- what opening takes has a size and a rule
-opened-frame : (rule : Rule) (w h : ℕ) (g : List ℕ) (j : Job) → gives (jobSays j) ≡ openRule rule w h g → Frame rule w h
-unfolding openRule
-opened-frame rule w h g j e =
-    let p = grid-allowed rule w h (then-gives (gridCheck rule w h) (readCheck w h g then gives (jobSays (start rule w h))) (sym e) .0 .1) in
-    record { size = p .0; allowed = p .1 }
-
 pub third-demand : ThirdDemand
 unfolding ThirdDemand
 third-demand rule w h g t β r j O e =
-    let z = opened-frame rule w h g j (sym (ap jobResultSays e) ∙ O .says) in
+    let z = opening-shows rule w h g (sym (O .says) ∙ ap jobResultSays e) .0 in
     subst (λ (x : Job). Demand grid (aimOf (gridKind rule w h g)) g (record { job = x; table = t; board = β })) (sym (O .job j e))
     (kind-meets-demand (List ℕ) lentCheck unitOf g (gridKind rule w h g) (kind-shows z g) (record { job = start rule w h; table = t; board = β }) (record {
       of = record { ruled = refl; wide = refl; tall = refl };

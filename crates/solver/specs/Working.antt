@@ -12,7 +12,7 @@ use Rattle.solver.specs.declared.Status.{Status}
 -- the checks after 7: those of what is read, as opening makes them, then 5, 6
 unfoldable pub lentCheck : Job → List ℕ → List ℕ → List ℕ → Answer
 lentCheck j givens table board =
-    readCheck (j .width) (j .height) givens then
+    readCheck (j .rule) (j .width) (j .height) givens then
     lengthCheck 5 (j .width) (j .height) board then
     tableCheck (j .width) (j .height) table
 

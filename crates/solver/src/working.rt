@@ -28,7 +28,7 @@ pub fn check_work(job: Job, givens: &[u8], table: &[u16], board: &[u8]) -> Check
     }
     let w = job.width;
     let h = job.height;
-    if let Check::Refused(r) = job::check_read(w, h, givens) {
+    if let Check::Refused(r) = job::check_read(job.rule, w, h, givens) {
         return Check::Refused(r);
     }
     if !board::has_length(board, w, h) {

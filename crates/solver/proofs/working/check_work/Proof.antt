@@ -23,7 +23,7 @@ job-at c = paused-numbers _ _ (sym (c .before .before .pause .ensures .says) ∙
 
 marks-at :
     (c : tie.After-enum-told2) → let a = c .before .before .before .before .before .before .before .before .before .args in
-    readCheck (a .job .width) (a .job .height) (a .givens .now) ≡ passed
+    readCheck (a .job .rule) (a .job .width) (a .job .height) (a .givens .now) ≡ passed
 marks-at c = let-through (c .before .before .check-read .ensures) (c .enum-told2 .given .1)
 
 board-at :
