@@ -1,12 +1,13 @@
--- Laws of answers: what a refused check leaves to say, and what an answer that gives something tells of the checks before it.
+-- Laws of answers: what a refused check leaves to say, what an answer that gives something tells of the checks before it, and checks that never
+-- answer a number.
 -- Assumes nothing.
 use mathlib.Core.Path.{_≡_, refl, _∙_, sym, ap}
 use mathlib.Core.Bool.{Bool, true, false}
 use mathlib.Core.Option.{Option, none, some}
-use mathlib.Core.List.{List}
+use mathlib.Core.List.{List, [], _∷_}
 use Prim.Native.Nat.{ℕ}
 use native.Mathlib.Omega.{arith}
-use Rattle.board.specs.Answers.{Answer, gives, refuses, refusalSays, checkSays, passed, _then_, refuseUnless, refuseAt, after}
+use Rattle.board.specs.Answers.{Answer, gives, refuses, refusalSays, checkSays, passed, _then_, refuseUnless, refuseAt, Checked, after}
 use Rattle.board.specs.declared.Refusal.{Refusal}
 use Rattle.board.specs.declared.Check.{Check}
 use Rattle.board.specs.declared.Check.the-variants.{Passed, Refused}
@@ -28,6 +29,11 @@ pub at-gives : (o : Option ℕ) (n : ℕ) {vs : List ℕ} → refuseAt o n ≡ g
 at-gives none n e = refl
 at-gives (some i) n e = absurd (refuses-none e)
 
+-- refused with a place, it is that place
+pub at-refuses : (o : Option ℕ) (n p : ℕ) → refuseAt o n ≡ refuses n (p ∷ []) → o ≡ some p
+at-refuses none n p e = absurd (refuses-none (sym e))
+at-refuses (some q) n p e = let z : q ≡ p = cc in ap some z
+
 -- what a refused call leaves in a buffer
 pub refused-keeps : {a : Answer} (r : Refusal) → refusalSays r ≡ a → (written held : List ℕ) → held ≡ after a written held
 refused-keeps r e written held = rw (← e)
@@ -44,3 +50,31 @@ module _ {k : Check} {a : Answer} (says : checkSays k ≡ a) where
 
   pub passed-on : k ≡ Passed → {b rest : Answer} → b ≡ rest → b ≡ (a then rest)
   passed-on e q = rw (let-through e) q
+
+-- ---- checks that never answer n
+module _ (n : ℕ) where
+  pub checked-then : (a b : Answer) → Checked n a → Checked n b → Checked n (a then b)
+  checked-then (gives values) b p q = q
+  checked-then (refuses m values) b p q = p
+
+  pub checked-unless : (t : Bool) (m : ℕ) → (m ≡ n → ⊥) → Checked n (refuseUnless t m)
+  checked-unless true m f = refl
+  checked-unless false m f = f
+
+  pub checked-at : (o : Option ℕ) (m : ℕ) → (m ≡ n → ⊥) → Checked n (refuseAt o m)
+  checked-at none m f = refl
+  checked-at (some i) m f = f
+
+  -- they give no values
+  pub checked-passed : (a : Answer) → Checked n a → {values : List ℕ} → a ≡ gives values → a ≡ passed
+  checked-passed (gives us) p e = ap gives p
+  checked-passed (refuses m us) p e = absurd (refuses-none e)
+
+  -- they never answer n: where it is answered, what follows answers it
+  pub checked-not : (a : Answer) → Checked n a → {values : List ℕ} → a ≡ refuses n values → ⊥
+  checked-not (gives us) p e = refuses-none (sym e)
+  checked-not (refuses m us) p e = p (let z : m ≡ n = cc in z)
+
+  pub past-check : (a : Answer) → Checked n a → {rest : Answer} {values : List ℕ} → (a then rest) ≡ refuses n values → rest ≡ refuses n values
+  past-check (gives us) p e = e
+  past-check (refuses m us) p e = absurd (checked-not (refuses m us) p e)

@@ -1,4 +1,4 @@
--- The checks pass exactly for the sizes, boards and grids of givens.
+-- The checks pass exactly for the sizes, boards and grids of givens; and which numbers they answer.
 -- Assumes nothing.
 use mathlib.Core.Path.{_≡_}
 use mathlib.Core.Option.{Option, none, some}
@@ -6,13 +6,14 @@ use mathlib.Core.List.{List}
 use Prim.Native.Nat.{ℕ, _*_, _<_, _≤_}
 use native.Mathlib.Omega.{arith}
 use borrow.Author.Tests.{eqb-true, leb-true, eq-eqb, le-leb}
+use lib.Dec.{eqb}
 use lib.ListN.{length, getD}
 use Rattle.board.specs.Search.{firstNot}
-use Rattle.board.specs.Answers.{gives, passed, _then_}
+use Rattle.board.specs.Answers.{gives, passed, _then_, Checked}
 use Rattle.board.specs.Boards.{among, maxWidth, maxHeight, Sized, Bytes, Board}
 use Rattle.board.specs.Checks.{lengthCheck, bytesCheck, widthCheck, heightCheck, sizeCheck, cellsCheck, givensCheck, boardCheck, atMost, ChecksRight}
 use Rattle.board.proofs.Tests.{among-yes, among-in}
-use Rattle.board.proofs.Answers.{then-gives, unless-gives, at-gives}
+use Rattle.board.proofs.Answers.{then-gives, unless-gives, at-gives, checked-then, checked-unless, checked-at}
 use Rattle.board.proofs.Search.{Searched, searched, all-pass, fails-at, none-of}
 
 -- ---- the size
@@ -27,6 +28,10 @@ sized w h e =
 pub size-passes : {w h : ℕ} → Sized w h → sizeCheck w h ≡ passed
 unfolding sizeCheck
 size-passes {w} {h} s = rw (among-yes maxWidth w (s .some-column) (s .narrow), among-yes maxHeight h (s .some-row) (s .low))
+
+pub size-checked : (n w h : ℕ) → (1 ≡ n → ⊥) → (2 ≡ n → ⊥) → Checked n (sizeCheck w h)
+unfolding sizeCheck
+size-checked n w h p q = checked-then n (widthCheck w) (heightCheck h) (checked-unless n (among maxWidth w) 1 p) (checked-unless n (among maxHeight h) 2 q)
 
 -- ---- the bytes: their length, then each of them
 module _ (n m most w h : ℕ) (bytes : List ℕ) where
@@ -67,9 +72,15 @@ pub marks-of : (w h : ℕ) (marks : List ℕ) {vs : List ℕ} → givensCheck w 
 unfolding givensCheck
 marks-of w h marks e = bytes-of 3 4 2 w h marks e
 
-pub marks-pass : {w h : ℕ} {marks : List ℕ} → Bytes 2 w h marks → givensCheck w h marks ≡ passed
+marks-pass : {w h : ℕ} {marks : List ℕ} → Bytes 2 w h marks → givensCheck w h marks ≡ passed
 unfolding givensCheck
 marks-pass {w} {h} {marks} b = bytes-pass 3 4 2 w h marks b
+
+pub givens-checked : (n w h : ℕ) (marks : List ℕ) → (3 ≡ n → ⊥) → (4 ≡ n → ⊥) → Checked n (givensCheck w h marks)
+unfolding givensCheck
+givens-checked n w h marks p q =
+    checked-then n (lengthCheck 3 w h marks) (bytesCheck 4 2 marks) (checked-unless n (eqb (length marks) (w * h)) 3 p)
+    (checked-at n (firstNot (atMost 2 marks) (length marks)) 4 q)
 
 pub checks-right : ChecksRight
 checks-right = (

@@ -1,12 +1,15 @@
--- Laws of the tests that definitions are made of: both of two, and one of 1 to n.
+-- Laws of the tests that definitions are made of: both of two, one of two, one of 1 to n, and a byte in a row and a column.
 -- Assumes nothing.
 use mathlib.Core.Path.{_≡_, refl, sym}
-use mathlib.Core.Bool.{Bool, true, false, _&&_, true≢false}
-use Prim.Native.Nat.{ℕ, _<_, _≤_}
+use mathlib.Core.Bool.{Bool, true, false, _&&_, _||_, true≢false}
+use mathlib.Core.Logic.{_⊎_, inl, inr}
+use mathlib.Core.List.{List}
+use Prim.Native.Nat.{ℕ, _+_, _*_, _-_, _<_, _≤_}
 use native.Mathlib.Omega.{arith}
 use borrow.Author.Tests.{leb-true, le-leb, lt-leb}
 use lib.Dec.{leb}
-use Rattle.board.specs.Boards.{among}
+use lib.ListN.{getD}
+use Rattle.board.specs.Boards.{among, byteAt}
 
 pub and-left : (s t : Bool) → s && t ≡ true → s ≡ true
 and-left true t e = refl
@@ -23,6 +26,10 @@ pub and-false : (s : Bool) → s && false ≡ false
 and-false true = refl
 and-false false = refl
 
+pub or-true : (s t : Bool) → s || t ≡ true → (s ≡ true) ⊎ (t ≡ true)
+or-true true t e = inl refl
+or-true false t e = inr e
+
 pub among-yes : (n i : ℕ) → 0 < i → i ≤ n → among n i ≡ true
 among-yes n i p q = rw (le-leb 1 i p, le-leb i n q)
 
@@ -31,3 +38,7 @@ among-in n i e = (leb-true 1 i (and-left (leb 1 i) (leb i n) e), leb-true i n (a
 
 pub among-past : (n i : ℕ) → n < i → among n i ≡ false
 among-past n i p = rw (le-leb 1 i (omega arith), lt-leb i n p)
+
+-- in a row and a column of the grid it is the byte at its place
+pub byte-at : (w h : ℕ) (bytes : List ℕ) (r c : ℕ) → 0 < r → r ≤ h → 0 < c → c ≤ w → byteAt w h bytes r c ≡ getD bytes ((r - 1) * w + (c - 1)) 0
+byte-at w h bytes r c p q s t = rw (among-yes h r p q, among-yes w c s t)

@@ -1,11 +1,12 @@
 -- Document 01, "Turned away": answers in the paper's numbers, the order of checks, and what a refused call leaves.
 -- Assumes nothing.
+use mathlib.Core.Path.{_≡_}
 use mathlib.Core.Bool.{Bool, cond}
 use mathlib.Core.Option.{Option, none, some}
 use mathlib.Core.List.{List, [], _∷_}
 use Prim.Native.Nat.{ℕ}
 use Rattle.board.specs.declared.Refusal.{Refusal}
-use Rattle.board.specs.declared.Refusal.the-variants.{Width, Height, GivensLength, Mark, BoardLength, ShortTable, Checkpoint, Letter, SpoiledTable, ShortOutput, Cell, LongText, Rule}
+use Rattle.board.specs.declared.Refusal.the-variants.{Width, Height, GivensLength, Mark, BoardLength, ShortTable, Checkpoint, Letter, SpoiledTable, ShortOutput, Cell, LongText, Rule, EdgeThree}
 use Rattle.board.specs.declared.Check.{Check}
 use Rattle.board.specs.declared.Check.the-variants.{Passed, Refused}
 use Rattle.board.specs.declared.Place.{Place}
@@ -18,7 +19,7 @@ pub data Answer : Type 0 where
 
 -- ---- the table of refusals
 -- a refusal's number. The paper's words are Width, Height, Grid length, Mark, Board length, Short table, Ticket (`Checkpoint`), Letter,
--- Spoiled table, Short output, Cell, Long text, and Req 02's Rule
+-- Spoiled table, Short output, Cell, Long text, Req 02's Rule and Req 04's Edge three
 abbrev pub numberOf : Refusal → ℕ
 numberOf Width = 1
 numberOf Height = 2
@@ -33,8 +34,9 @@ numberOf ShortOutput = 10
 numberOf (Cell place) = 11
 numberOf LongText = 12
 numberOf Rule = 13
+numberOf (EdgeThree place) = 14
 
--- and its values: the first place, from 0, of a mark, a letter or a cell
+-- and its values: the first place, from 0, of a mark, a letter, a cell or the middle of an edge three
 abbrev pub valuesOf : Refusal → List ℕ
 valuesOf Width = []
 valuesOf Height = []
@@ -49,6 +51,7 @@ valuesOf ShortOutput = []
 valuesOf (Cell place) = place ∷ []
 valuesOf LongText = []
 valuesOf Rule = []
+valuesOf (EdgeThree place) = place ∷ []
 
 abbrev pub refusalSays : Refusal → Answer
 refusalSays r = refuses (numberOf r) (valuesOf r)
@@ -76,6 +79,11 @@ refuseUnless holds n = cond holds passed (refuses n [])
 abbrev pub refuseAt : Option ℕ → ℕ → Answer
 refuseAt none n = passed
 refuseAt (some place) n = refuses n (place ∷ [])
+
+-- what a check says that never answers n: nothing, or another refusal
+abbrev pub Checked : ℕ → Answer → Type 0
+Checked n (gives values) = values ≡ []
+Checked n (refuses m values) = m ≡ n → ⊥
 
 abbrev pub placeOf : Place → Option ℕ
 placeOf Nowhere = none

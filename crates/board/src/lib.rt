@@ -23,6 +23,7 @@ pub enum Refusal {
     Cell(usize),
     LongText,
     Rule,
+    EdgeThree(usize),
 }
 
 // What a check comes to.
@@ -32,7 +33,7 @@ pub enum Check {
 }
 
 impl Refusal {
-    // The number of document 01's table; 13 is Req 02's.
+    // The number of document 01's table; 13 is Req 02's, 14 Req 04's.
     pub fn number(self) -> u8
         ensures { λ r. ⌜ r ≡ numberOf self ⌝ }
     {
@@ -50,6 +51,7 @@ impl Refusal {
             Refusal::Cell(_) => 11,
             Refusal::LongText => 12,
             Refusal::Rule => 13,
+            Refusal::EdgeThree(_) => 14,
         }
     }
 }

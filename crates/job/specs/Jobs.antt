@@ -9,6 +9,7 @@ use lib.Dec.{eqb, leb, ltb}
 use Rattle.board.specs.Answers.{Answer, gives, refusalSays, _then_, refuseUnless}
 use Rattle.board.specs.Boards.{among, maxWidth, maxHeight}
 use Rattle.board.specs.Checks.{givensCheck, tableSize}
+use Rattle.edges.specs.Edges.{edgeCheck}
 use Rattle.elimination.specs.Task.{isFill}
 use Rattle.elimination.specs.Task as Elimination
 use Rattle.elimination.specs.FillThenChoose.{plan}
@@ -136,9 +137,9 @@ stageOf t =
 abbrev pub jobOf : Checkpoint → Job
 jobOf t = record { rule = ruleOf t; width = t .width; height = t .height; units = t .units; stage = stageOf t }
 
--- the checks of what is lent to be read, as opening and working make them: 3, 4
+-- the checks of what is lent to be read, as opening and working make them: 3, 4, 14
 unfoldable pub readCheck : Rule → ℕ → ℕ → List ℕ → Answer
-readCheck rule w h givens = givensCheck w h givens
+readCheck rule w h givens = givensCheck w h givens then edgeCheck rule w h givens
 
 -- opening: 1, 2, 13, then those
 unfoldable pub openRule : Rule → ℕ → ℕ → List ℕ → Answer

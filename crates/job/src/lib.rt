@@ -90,7 +90,7 @@ pub enum Chosen {
     Nothing,
 }
 
-// A job at unit 0 under a rule for a grid of givens: w × h marks, 0 free, 1 given dead, 2 given live. Refusals 1, 2, 13, 3, 4.
+// A job at unit 0 under a rule for a grid of givens: w × h marks, 0 free, 1 given dead, 2 given live. Refusals 1, 2, 13, 3, 4, 14.
 pub fn open(rule: Rule, width: usize, height: usize, givens: &[u8]) -> JobResult
     ensures { λ r. ⌜ Opens rule width height (now (givens .entry)) r ⌝ }
 {
@@ -113,11 +113,14 @@ pub fn open(rule: Rule, width: usize, height: usize, givens: &[u8]) -> JobResult
     })
 }
 
-// The checks of what is lent to be read, by opening and by working: 3, 4.
+// The checks of what is lent to be read, by opening and by working: 3, 4, 14.
 pub fn check_read(rule: Rule, width: usize, height: usize, givens: &[u8]) -> Check
     ensures { λ r. ⌜ checkSays r ≡ readCheck rule width height (now (givens .entry)) ⌝ }
 {
-    board::check_givens(width, height, givens)
+    if let Check::Refused(r) = board::check_givens(width, height, givens) {
+        return Check::Refused(r);
+    }
+    edges::check(rule, width, height, givens)
 }
 
 impl Checkpoint {

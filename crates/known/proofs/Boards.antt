@@ -19,7 +19,8 @@ use Rattle.score_table.specs.Rows.{markKept, rowKept, cellWorth, rowWorth}
 use Rattle.board_rows.specs.Rows.{written}
 use Rattle.board_rows.specs.Calls.{rowWrites}
 use Rattle.elimination.specs.Shape.{unitsFit, rowsChosen, rowsFit, numbersFit}
-use Rattle.job.specs.Jobs.{checkpointFits, jobFits, stageOf, readCheck}
+use Rattle.edges.specs.Edges.{givenLiveAt, edgeThree, edgeCheck}
+use Rattle.job.specs.Jobs.{checkpointFits, jobFits, stageOf, readCheck, openRule}
 use Rattle.service.specs.Units.{unitBy}
 use Rattle.service.specs.Service.{workCheck, worksOn, workOf}
 use Rattle.solver.specs.Working.{lentCheck}
@@ -27,13 +28,14 @@ use Rattle.solver.specs.Units.{unitOf}
 use Rattle.known.specs.Known.{solved, chosenBy, Known}
 
 pub known : Known
-unfolding flatMap firstNot allBelow total sizeCheck cellsCheck givensCheck scan choose entry ruleCheck gridCheck nextUnder conway onPlane around cellOf becomes stepsTo nextAt keepsAt lifeCheck judged judgeRule linesOf Reading.judge Reading.judgeLines Reading.judged Reading.firstBad Reading.rowsOf Reading.widthOf Reading.filled Reading.cellsOf Reading.boardOver Reading.sizeRule Reading.readRule markKept rowKept cellWorth rowWorth written rowWrites tableSize unitsFit rowsChosen rowsFit numbersFit checkpointFits jobFits stageOf readCheck workCheck lentCheck reads fillEntry plan unitBy unitOf worksOn workOf solved chosenBy
+unfolding flatMap firstNot allBelow total sizeCheck cellsCheck givensCheck scan choose entry ruleCheck gridCheck nextUnder conway onPlane around cellOf becomes stepsTo nextAt keepsAt lifeCheck judged judgeRule linesOf Reading.judge Reading.judgeLines Reading.judged Reading.firstBad Reading.rowsOf Reading.widthOf Reading.filled Reading.cellsOf Reading.boardOver Reading.sizeRule Reading.readRule markKept rowKept cellWorth rowWorth written rowWrites tableSize unitsFit rowsChosen rowsFit numbersFit checkpointFits jobFits stageOf givenLiveAt edgeThree edgeCheck readCheck openRule workCheck lentCheck reads fillEntry plan unitBy unitOf worksOn workOf solved chosenBy
 known = record {
   m1 = refl;
   m2 = refl;
   m3 = refl;
   m4 = refl;
   m5 = refl;
+  m5-opens = refl;
   m6 = refl;
   m7 = refl;
   m8 = refl;
@@ -41,6 +43,11 @@ known = record {
   m10 = refl;
   one-given = refl;
   all-given = refl;
+  edge-row = refl;
+  edge-births-on-2 = refl;
+  edge-column = refl;
+  round-a-corner = refl;
+  edge-worked = refl;
   free3 = refl;
   spoiled = refl;
   above-600 = refl;

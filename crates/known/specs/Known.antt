@@ -1,4 +1,4 @@
--- Document 01, "Known boards": M1 to M10, the free 3 by 3 grid, grids with live givens, a spoiled table, rows written, and texts, stated of the rules
+-- Document 01, "Known boards": M1 to M10, the free 3 by 3 grid, grids with live givens, edge threes, a spoiled table, rows written, and texts, stated of the rules
 -- themselves.
 -- Assumes nothing.
 use mathlib.Core.Path.{_≡_}
@@ -13,7 +13,7 @@ use Rattle.plaintext.specs.Reading.{readRule, ReadsText}
 use Rattle.plaintext.specs.declared.Read.the-variants.{Board}
 use Rattle.board.specs.Checks.{tableSize}
 use Rattle.board_rows.specs.Calls.{rowWrites}
-use Rattle.job.specs.Jobs.{start}
+use Rattle.job.specs.Jobs.{start, jobSays, openRule}
 use Rattle.job.specs.declared.Stage.{Stage}
 use Rattle.service.specs.Service.{Result, finished, infeasible, workOf}
 use Rattle.solver.specs.Units.{grid}
@@ -55,6 +55,7 @@ pub record Known : Type 0 where
   pub m4 : solved 2 2 (2 ∷ 1 ∷ 0 ∷ 0 ∷ []) ≡ record { answer = infeasible; units = 33; board = 9 ∷ 9 ∷ 9 ∷ 9 ∷ [] }
   -- width 3, height 1, first live: none
   pub m5 : solved 3 1 (2 ∷ 0 ∷ 0 ∷ []) ≡ record { answer = infeasible; units = 65; board = 9 ∷ 9 ∷ 9 ∷ [] }
+  pub m5-opens : openRule conwayRule 3 1 (2 ∷ 0 ∷ 0 ∷ []) ≡ gives (jobSays (start conwayRule 3 1))
   -- width 3, height 2 free: rows 3, 3, 130 units
   pub m6 : solved 3 2 (0 ∷ 0 ∷ 0 ∷ 0 ∷ 0 ∷ 0 ∷ []) ≡ record { answer = finished 4; units = 130; board = 0 ∷ 1 ∷ 1 ∷ 0 ∷ 1 ∷ 1 ∷ [] }
   -- the 3 by 3 board of rows 3, 5, 6 is still
@@ -68,6 +69,13 @@ pub record Known : Type 0 where
   -- 2 by 2, first live: score 3; all four live: score 0. The block is the best board of both
   pub one-given : solved 2 2 (2 ∷ 0 ∷ 0 ∷ 0 ∷ []) ≡ record { answer = finished 3; units = 34; board = 1 ∷ 1 ∷ 1 ∷ 1 ∷ [] }
   pub all-given : solved 2 2 (2 ∷ 2 ∷ 2 ∷ 2 ∷ []) ≡ record { answer = finished 0; units = 34; board = 1 ∷ 1 ∷ 1 ∷ 1 ∷ [] }
+  -- edge threes, with the middle cell's place. Width 3, height 1, all live: 14 at the second cell; the same under birth on 2 opens. 2 by 3, column 2
+  -- live: 14 at the second row's cell; three live round a corner of 2 by 2 open. A working call turns them away too, and does no unit
+  pub edge-row : openRule conwayRule 3 1 (2 ∷ 2 ∷ 2 ∷ []) ≡ refuses 14 (1 ∷ [])
+  pub edge-births-on-2 : openRule (record { births = 4; survivals = 12 }) 3 1 (2 ∷ 2 ∷ 2 ∷ []) ≡ gives (jobSays (start (record { births = 4; survivals = 12 }) 3 1))
+  pub edge-column : openRule conwayRule 2 3 (0 ∷ 2 ∷ 0 ∷ 2 ∷ 0 ∷ 2 ∷ []) ≡ refuses 14 (3 ∷ [])
+  pub round-a-corner : openRule conwayRule 2 2 (2 ∷ 2 ∷ 2 ∷ 0 ∷ []) ≡ gives (jobSays (start conwayRule 2 2))
+  pub edge-worked : solved 3 1 (2 ∷ 2 ∷ 2 ∷ []) ≡ record { answer = refuses 14 (1 ∷ []); units = 0; board = 9 ∷ 9 ∷ 9 ∷ [] }
   -- 3 by 3 free: rows 3, 5, 6
   pub free3 : solved 3 3 (replicate 9 0) ≡ record { answer = finished 6; units = 195; board = 0 ∷ 1 ∷ 1 ∷ 1 ∷ 0 ∷ 1 ∷ 1 ∷ 1 ∷ 0 ∷ [] }
   -- layer 2 is none throughout: 9, no row can be chosen after row 1; row 1 stays done and written, and the job stands before row 2

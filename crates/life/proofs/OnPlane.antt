@@ -12,7 +12,7 @@ use lib.IntN.{ℤ, pos, negsuc, sucℤ, predℤ}
 use lib.ListN.{length, getD, List·getD-eq-default}
 use native.Mathlib.Decide.{decLt}
 use Rattle.board.specs.Boards.{among, Board}
-use Rattle.board.proofs.Tests.{among-yes, among-past, and-false}
+use Rattle.board.proofs.Tests.{among-past, and-false, byte-at}
 use Rattle.life.specs.Plane.{onPlane, around}
 
 -- ---- rows and columns off the board
@@ -45,7 +45,7 @@ module _ (w h : ℕ) (cells : List ℕ) where
   on-board r c p q =
       let e : suc r - 1 ≡ r = omega arith in
       let f : suc c - 1 ≡ c = omega arith in
-      rw (among-yes h (suc r) (omega arith) p, among-yes w (suc c) (omega arith) q, e, f)
+      rw (byte-at w h cells (suc r) (suc c) (omega arith) p (omega arith) q, e, f)
 
 -- one before a number that stands off the board
 pub off-low : (n i : ℕ) → i < 2 → Off n (predℤ (pos i))

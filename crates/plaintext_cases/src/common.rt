@@ -7,7 +7,7 @@ use writer::Written;
 // What every buffer holds before a call.
 pub const LEFT: u8 = 9;
 
-// The counts: 0 for what was read or written, 1 to 12 for each refusal of these calls, which never answer 13; 13 for what came out wrong.
+// The counts: 0 for what was read or written, 1 to 12 for each refusal of these calls, which never answer 13 or 14; 13 for what came out wrong.
 pub const WRONG: usize = 13;
 
 // An answer: 0 or the number of a refusal, its place, and the width and height read or the length written.

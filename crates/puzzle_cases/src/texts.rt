@@ -8,11 +8,14 @@ pub fn refused() {
     answers::show(b"a row of 11", b"...........\n");
     answers::show(b"a wrong byte", b"..\n.x\n");
     answers::show(b"8 by 1", b"........\n");
+    answers::show(b"3 by 2, the second row live", b"...\nOOO\n");
+    answers::show(b"8 by 1, three live", b".....OOO\n");
 }
 
 pub fn infeasible() {
     answers::show(b"1 by 1, live", b"O\n");
     answers::show(b"3 by 1, the first live", b"O..");
+    answers::show(b"3 by 3, the second row live", b"...\nOOO\n...\n");
 }
 
 pub fn scored() {

@@ -10,8 +10,11 @@ fn main() {
     openings::givens();
     openings::largest();
     openings::rules();
+    openings::edge_threes();
+    openings::edge_threes_ruled();
     workings::jobs();
     workings::givens();
+    workings::edge_threes();
     workings::memory();
     workings::passes();
     numbers::resumptions();

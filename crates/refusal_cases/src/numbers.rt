@@ -17,7 +17,7 @@ pub fn resumptions() {
 pub fn pauses() {
     pause(b"pause, width 11", filling(11, 0));
     pause(b"pause, unit 32 of 32 in filling", filling(2, 32));
-    pause(b"pause, births 9", barred());
+    pause(b"pause, births 9", ruled(2, 9));
     pause(b"pause, unit 31 in filling", filling(2, 31));
 }
 
@@ -36,10 +36,10 @@ pub fn filling(width: usize, units: usize) -> Job {
     }
 }
 
-// A job of 2 by 2 with birth on 0.
-pub fn barred() -> Job {
-    let mut job = filling(2, 0);
-    job.rule.births = 9;
+// The same at unit 0 with other births.
+pub fn ruled(width: usize, births: usize) -> Job {
+    let mut job = filling(width, 0);
+    job.rule.births = births;
     job
 }
 

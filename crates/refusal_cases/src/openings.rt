@@ -33,6 +33,83 @@ pub fn rules() {
     open_ruled(b"open, births 510, survivals 511", 510, 511);
 }
 
+// Openings with edge threes, and with lines that are none.
+pub fn edge_threes() {
+    open_marked(b"open, 3 by 2, row 1 given live", 3, 2, &[2, 2, 2, 0, 0, 0]);
+    open_marked(b"open, 3 by 2, row 2 given live", 3, 2, &[0, 0, 0, 2, 2, 2]);
+    open_marked(
+        b"open, 2 by 3, column 1 given live",
+        2,
+        3,
+        &[2, 0, 2, 0, 2, 0],
+    );
+    open_marked(
+        b"open, 2 by 3, column 2 given live",
+        2,
+        3,
+        &[0, 2, 0, 2, 0, 2],
+    );
+    open_marked(b"open, 5 by 1, all given live", 5, 1, &[2; 5]);
+    open_marked(
+        b"open, 1 by 4, the last three given live",
+        1,
+        4,
+        &[0, 2, 2, 2],
+    );
+    open_marked(
+        b"open, 3 by 3, column 1 and row 3 given live",
+        3,
+        3,
+        &[2, 0, 0, 2, 0, 0, 2, 2, 2],
+    );
+    open_marked(
+        b"open, 5 by 3, column 1 and the end of row 1 given live",
+        5,
+        3,
+        &[2, 0, 2, 2, 2, 2, 0, 0, 0, 0, 2, 0, 0, 0, 0],
+    );
+    open_marked(
+        b"open, 3 by 3, row 2 given live",
+        3,
+        3,
+        &[0, 0, 0, 2, 2, 2, 0, 0, 0],
+    );
+    open_marked(
+        b"open, 2 by 2, three given live round a corner",
+        2,
+        2,
+        &[2, 2, 2, 0],
+    );
+    open_marked(b"open, 3 by 1, the first given live", 3, 1, &[2, 0, 0]);
+    open_marked(b"open, 3 by 1, the second given dead", 3, 1, &[2, 1, 2]);
+}
+
+// Under other rules, and with other faults.
+pub fn edge_threes_ruled() {
+    open_row(b"open, 3 by 1, all given live, births on 2", 4);
+    open_row(b"open, 3 by 1, all given live, births on 2, 3, 4", 28);
+    open_row(b"open, 3 by 1, all given live, births on 0 and 3", 9);
+    open_marked(b"open, 3 by 1, four given live", 3, 1, &[2; 4]);
+    open_marked(
+        b"open, 3 by 2, row 1 given live, a mark 3",
+        3,
+        2,
+        &[2, 2, 2, 0, 3, 0],
+    );
+}
+
+fn open_marked(name: &[u8], w: usize, h: usize, givens: &[u8]) {
+    open(name, rule::conway(), w, h, givens);
+}
+
+fn open_row(name: &[u8], births: usize) {
+    let rule = Rule {
+        births,
+        survivals: 12,
+    };
+    open(name, rule, 3, 1, &[2; 3]);
+}
+
 fn open_sized(name: &[u8], births: usize, w: usize, h: usize) {
     let rule = Rule {
         births,

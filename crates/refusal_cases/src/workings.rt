@@ -1,4 +1,4 @@
-// Working calls on a grid of 2 by 2, which needs 32 entries. The table's entries are 700 and the board's bytes 9 before each call.
+// Working calls, most on a grid of 2 by 2, which needs 32 entries. The table's entries are 700 and the board's bytes 9 before each call.
 use crate::numbers;
 use job::Job;
 use job::Stage;
@@ -19,7 +19,7 @@ pub fn jobs() {
     );
     work_short(
         b"work, births 9, and all below",
-        numbers::barred(),
+        numbers::ruled(2, 9),
         &[0, 3, 0],
     );
 }
@@ -32,6 +32,36 @@ pub fn givens() {
         b"work, givens 0, 3, 2, 4, and all below",
         job,
         &[0, 3, 2, 4],
+    );
+}
+
+// On a grid of 3 by 2.
+pub fn edge_threes() {
+    let job = numbers::filling(3, 0);
+    work_short(
+        b"work, row 1 of 3 by 2 given live, 5 givens of 6, and all below",
+        job,
+        &[2, 2, 2, 0, 0],
+    );
+    work_short(
+        b"work, row 1 of 3 by 2 given live, a mark 3, and all below",
+        job,
+        &[2, 2, 2, 0, 0, 3],
+    );
+    work_short(
+        b"work, row 1 of 3 by 2 given live, and all below",
+        job,
+        &[2, 2, 2, 0, 0, 0],
+    );
+    work_short(
+        b"work, row 2 of 3 by 2 given live, births on 2, and all below",
+        numbers::ruled(3, 4),
+        &[0, 0, 0, 2, 2, 2],
+    );
+    work_short(
+        b"work, row 1 of 3 by 2 given live, births on 0 and 3, and all below",
+        numbers::ruled(3, 9),
+        &[2, 2, 2, 0, 0, 0],
     );
 }
 

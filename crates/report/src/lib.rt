@@ -34,6 +34,7 @@ pub fn refusal(r: Refusal) {
         Refusal::Mark(place) => line(b" at ", place),
         Refusal::Letter(place) => line(b" at ", place),
         Refusal::Cell(place) => line(b" at ", place),
+        Refusal::EdgeThree(place) => line(b" at ", place),
         _ => text(b"\n"),
     }
 }

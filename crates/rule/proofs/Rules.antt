@@ -9,11 +9,11 @@ use native.Mathlib.Omega.{arith}
 use borrow.Author.Tests.{eqb-true, leb-true, eq-eqb, ne-eqb, le-leb, lt-leb}
 use lib.Dec.{eqb, leb}
 use lib.Pow.{shr-shr}
-use Rattle.board.specs.Answers.{gives, passed}
+use Rattle.board.specs.Answers.{gives, passed, refuseUnless, Checked}
 use Rattle.board.specs.Boards.{Sized}
 use Rattle.board.specs.Checks.{sizeCheck}
-use Rattle.board.proofs.Answers.{unless-gives, then-gives}
-use Rattle.board.proofs.Checks.{sized, size-passes}
+use Rattle.board.proofs.Answers.{unless-gives, then-gives, checked-then, checked-unless}
+use Rattle.board.proofs.Checks.{sized, size-passes, size-checked}
 use Rattle.board.proofs.Tests.{and-left, and-right}
 use Rattle.rule.specs.Rule.{hasCount, stateUnder, nextState, Allowed, ruleFits, ruleCheck, gridCheck, conwayRule, digit, liveAround, nextUnder, conway}
 use Rattle.rule.specs.Theorems.{RuleCheckRight, ConwaysRule, DeadStays}
@@ -80,6 +80,10 @@ module _ (rule : Rule) where
   pub grid-passes : {w h : ℕ} → Sized w h → Allowed rule → gridCheck rule w h ≡ passed
   unfolding gridCheck
   grid-passes s a = rw (size-passes s) (rule-passes a)
+
+  pub grid-checked : (n w h : ℕ) → (1 ≡ n → ⊥) → (2 ≡ n → ⊥) → (13 ≡ n → ⊥) → Checked n (gridCheck rule w h)
+  unfolding gridCheck ruleCheck
+  grid-checked n w h p q r = checked-then n (sizeCheck w h) (refuseUnless (ruleFits rule) 13) (size-checked n w h p q) (checked-unless n (ruleFits rule) 13 r)
 
   -- ---- next states
   -- pattern 0 is a dead cell with no live neighbour

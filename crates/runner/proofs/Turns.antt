@@ -7,14 +7,13 @@ use Prim.Native.Nat.{ℕ, _+_, _≤_, _<_, min}
 use native.Mathlib.Omega.{arith}
 use borrow.Author.Tests.{leb-true, leb-false}
 use lib.Dec.{leb}
-use Rattle.board.specs.Answers.{Answer, gives, refuses, passed}
+use Rattle.board.specs.Answers.{Answer, gives, refuses, passed, Checked}
 use Rattle.board.proofs.Answers.{refuses-none}
 use Rattle.rule.specs.declared.Rule.{Rule}
 use Rattle.solver.specs.Grid.{score}
 use Rattle.board.specs.Checks.{tableSize}
 use Rattle.job.specs.Jobs.{boardLength, noneLength, start, readCheck}
 use Rattle.service.specs.Service.{workCheck, workOf, unfinished, finished, infeasible}
-use Rattle.service.specs.Laws.{Checked}
 use Rattle.solver.specs.Units.{State, grid}
 use Rattle.solver.specs.Calls.{Result}
 use Rattle.solver.specs.Inner.{lentState}

@@ -26,7 +26,7 @@ solvedSays (Solved.Refused r) = refusalSays r
 unfoldable pub memoryCheck : ℕ → ℕ → List ℕ → List ℕ → Answer
 memoryCheck w h table board = lengthCheck 5 w h board then tableCheck w h table
 
--- its checks: 1, 2, 13, 3, 4 as opening, then those
+-- its checks: 1, 2, 13, 3, 4, 14 as opening, then those
 unfoldable pub solveCheck : Rule → ℕ → ℕ → List ℕ → List ℕ → List ℕ → Answer
 solveCheck rule w h givens table board = gridCheck rule w h then readCheck rule w h givens then memoryCheck w h table board
 

@@ -17,7 +17,7 @@ pub enum Solved {
 const ALLOWANCE: u32 = 1000;
 
 // Solves a grid of givens under a rule: leaves the best still board that keeps them, first in board order among the best, in `board`, over a
-// table of h × 4^w entries or more. Refusals 1, 2, 13, 3, 4 as opening, then 5, 6 as working.
+// table of h × 4^w entries or more. Refusals 1, 2, 13, 3, 4, 14 as opening, then 5, 6 as working.
 pub fn solve(
     rule: Rule,
     w: usize,

@@ -3,19 +3,16 @@
 use mathlib.Core.Path.{_≡_, refl, sym, _∙_, ap}
 use mathlib.Core.Bool.{Bool, true, false}
 use mathlib.Core.List.{List, []}
-use mathlib.Core.Option.{Option, none, some}
 use Prim.Native.Nat.{ℕ, zero, suc}
-use native.Mathlib.Omega.{arith}
-use Rattle.board.specs.Answers.{Answer, gives, refuses, _then_, refuseUnless, refuseAt}
-use Rattle.board.proofs.Answers.{refuses-none, then-gives, unless-gives}
+use Rattle.board.specs.Answers.{Answer, gives, refuses, _then_, refuseUnless, Checked}
+use Rattle.board.proofs.Answers.{refuses-none, then-gives, unless-gives, checked-then, checked-unless}
 use Rattle.job.specs.Jobs.{jobFits, checkpointFits, checkpointSays, jobOf, pauseRule, resumeRule}
 use Rattle.job.specs.declared.Stage.{Stage}
 use Rattle.job.specs.declared.Job.{Job}
 use Rattle.job.specs.declared.Checkpoint.{Checkpoint}
 use Rattle.job.proofs.Fits.{pausable, paused-numbers, job-back}
-use Rattle.service.specs.Service.{stageSays, State, next, spoiled, Service, worksOn, workCheck}
+use Rattle.service.specs.Service.{stageSays, State, Step, next, spoiled, onStep, Service, worksOn, workCheck, workBy, workOf}
 use Rattle.service.specs.Demand.{afterResume, WorkAnswers, ResumeAnswers}
-use Rattle.service.specs.Laws.{Checked, ChecksSound}
 
 -- a stage's answer is no refusal
 pub never-refused : (s : Stage) {n : ℕ} {values : List ℕ} → stageSays s ≡ refuses n values → ⊥
@@ -43,24 +40,22 @@ module _ (S : Service) (given : S .Given) where
   works-still zero s e = works-none s
   works-still (suc n) s e = works-next n s s e ∙ works-still n s e
 
+  -- they answer 9 alone
+  pub works-refused : (n : ℕ) (s : State (S .Table)) {m : ℕ} {values : List ℕ} → worksOn S given n s .answer ≡ refuses m values → 9 ≡ m
+  unfolding worksOn
+  works-refused zero s e = absurd (never-refused (s .job .stage) e)
+  works-refused (suc n) s {m} {values} e = go (S .unit given s) (λ s′ q. works-refused n s′ q) e
+    where
+      go : (o : Step (S .Table)) → ((s′ : State (S .Table)) → worksOn S given n s′ .answer ≡ refuses m values → 9 ≡ m)
+          → onStep o s (worksOn S given n) .answer ≡ refuses m values → 9 ≡ m
+      go (next s′) ih q = ih s′ q
+      go spoiled ih q = cc
+
 -- ---- checks
-module _ (n : ℕ) where
-  pub checked-then : (a b : Answer) → Checked n a → Checked n b → Checked n (a then b)
-  checked-then (gives values) b p q = q
-  checked-then (refuses m values) b p q = p
-
-  pub checked-unless : (t : Bool) (m : ℕ) → (m ≡ n → ⊥) → Checked n (refuseUnless t m)
-  checked-unless true m f = refl
-  checked-unless false m f = f
-
-  pub checked-at : (o : Option ℕ) (m : ℕ) → (m ≡ n → ⊥) → Checked n (refuseAt o m)
-  checked-at none m f = refl
-  checked-at (some i) m f = f
-
 module _ (S : Service) (j : Job) (given : S .Given) (table : S .Table) (board : List ℕ) where
-  pub work-checked : ChecksSound S → Checked 9 (workCheck S j given table board)
+  pub work-checked : (n : ℕ) → (7 ≡ n → ⊥) → Checked n (S .check j given table board) → Checked n (workCheck S j given table board)
   unfolding workCheck
-  work-checked C = checked-then 9 (refuseUnless (jobFits j) 7) (S .check j given table board) (checked-unless 9 (jobFits j) 7 (λ e. omega arith)) (C j given table board)
+  work-checked n p c = checked-then n (refuseUnless (jobFits j) 7) (S .check j given table board) (checked-unless n (jobFits j) 7 p) c
 
   -- a job that pausing turns away is turned away here, with the same refusal
   pub pause-refused : {n : ℕ} {us : List ℕ} → refuses n us ≡ pauseRule j → refuses n us ≡ workCheck S j given table board
@@ -70,6 +65,17 @@ module _ (S : Service) (j : Job) (given : S .Given) (table : S .Table) (board : 
       go : (b : Bool) → jobFits j ≡ b → refuses n us ≡ workCheck S j given table board
       go true f = absurd (refuses-none (rw f at e))
       go false f = rw f (rw f at e)
+
+  -- a call that answers another refusal than 9 is turned away by its checks
+  pub work-refused : (n : ℕ) {m : ℕ} → (9 ≡ m → ⊥) → {values : List ℕ} → workOf S j given table board n .answer ≡ refuses m values
+      → workCheck S j given table board ≡ refuses m values
+  unfolding workOf
+  work-refused n {m} f {values} e = go (workCheck S j given table board) refl e
+    where
+      go : (a : Answer) → workCheck S j given table board ≡ a → workBy S a given n (record { job = j; table = table; board = board }) .answer ≡ refuses m values
+          → workCheck S j given table board ≡ refuses m values
+      go (gives us) p q = absurd (f (works-refused S given n _ q))
+      go (refuses k us) p q = p ∙ q
 
   -- what has passed: 7, and the checks of what is lent
   pub work-passed : {values : List ℕ} → workCheck S j given table board ≡ gives values → (jobFits j ≡ true) × (S .check j given table board ≡ gives values)

@@ -6,7 +6,7 @@ use mathlib.Core.List.{List}
 use mathlib.Core.Logic.{⊎-elim}
 use Prim.Native.Nat.{ℕ, _+_, _≤_, _<_, min}
 use native.Mathlib.Omega.{arith}
-use Rattle.board.specs.Answers.{Answer, gives, refuses, passed}
+use Rattle.board.specs.Answers.{Answer, gives, refuses, passed, Checked}
 use Rattle.board.proofs.Answers.{refuses-none}
 use Rattle.elimination.specs.Machine.{advance}
 use Rattle.elimination.proofs.Numbers.{lt-or-ge}
@@ -14,7 +14,7 @@ use Rattle.elimination.proofs.Machine.{advance-zero, after-units}
 use Rattle.job.proofs.Fits.{pausable}
 use Rattle.service.specs.Service.{State, Service, infeasible}
 use Rattle.service.specs.Demand.{Call, run, Each, Fair, summed, Aim, Served, solved, unsolvable, Demand}
-use Rattle.service.specs.Laws.{Checked, Course, Comes, toBoard, toNone, Lawful, MeetsDemand}
+use Rattle.service.specs.Laws.{Course, Comes, toBoard, toNone, Lawful, MeetsDemand}
 use Rattle.service.proofs.Lists.{Reached, reached-fits, reached-units, listed, idle}
 
 module _ (S : Service) (A : Aim (S .Table)) (given : S .Given) (s : State (S .Table)) (L : Lawful S A given s) where

@@ -8,7 +8,7 @@ use native.Mathlib.Nat.{add-zero}
 use native.Mathlib.Omega.{arith}
 use borrow.Author.Tests.{leb-false, lt-leb}
 use lib.Dec.{leb}
-use Rattle.board.specs.Answers.{Answer, gives, refuses, passed}
+use Rattle.board.specs.Answers.{Answer, gives, refuses, passed, Checked}
 use Rattle.board.proofs.Answers.{refuses-none}
 use Rattle.elimination.specs.Machine.{Machine, advance}
 use Rattle.elimination.proofs.Machine.{advance-suc, after-units}
@@ -16,7 +16,7 @@ use Rattle.job.specs.Jobs.{jobFits}
 use Rattle.job.proofs.Fits.{pausable}
 use Rattle.service.specs.Service.{stageSays, State, Step, next, spoiled, Service, Result, onStep, worksOn, workBy, workOf, workCheck}
 use Rattle.service.specs.Demand.{Call, work, pause, resume, afterWork, afterCall, run, Each, Fair, counted, allowed, summed, WorkAnswers, Answers, Aim}
-use Rattle.service.specs.Laws.{Checked, ChecksSound, Follows, Course}
+use Rattle.service.specs.Laws.{ChecksSound, Follows, Course}
 use Rattle.service.proofs.Calls.{never-refused, work-checked, work-passed, turned-answers, resumed-same, resume-answers}
 
 -- ---- a list of calls over a machine that lasts `long` units and then says `final`
@@ -95,7 +95,7 @@ module _ (S : Service) (A : Aim (S .Table)) (checks : ChecksSound S) {given : S 
   called : (c : Call S) (m : ℕ) (s : State (S .Table)) → Reached m s → Fair S given c s → Called m c s
   unfolding workOf
   called (work g t β n) m s R f =
-      let P = work-called g t β n m s R (workCheck S (s .job) g t β) f (work-checked S (s .job) g t β checks) in
+      let P = work-called g t β n m s R (workCheck S (s .job) g t β) f (work-checked S (s .job) g t β 9 (λ e. omega arith) (checks (s .job) g t β)) in
       record { reached = P .reached; answers = P .answers }
   called pause m s R f = record { reached = rw (add-zero m) R; answers = pausable (s .job) (reached-fits R) }
   called (resume t) m s R f =
@@ -145,7 +145,7 @@ module _ (S : Service) (checks : ChecksSound S) (given : S .Given) (s : State (S
   waits : (c : Call S) → Fair S given c s → Waits c
   unfolding workOf
   waits (work g t β n) f =
-      let P = work-waits g t β n (workCheck S (s .job) g t β) refl f (work-checked S (s .job) g t β checks) in
+      let P = work-waits g t β n (workCheck S (s .job) g t β) refl f (work-checked S (s .job) g t β 9 (λ e. omega arith) (checks (s .job) g t β)) in
       record { state = P .state; sum = P .sum; answers = P .answers }
   waits pause f = record { state = refl; sum = refl; answers = pausable (s .job) fits }
   waits (resume t) f =

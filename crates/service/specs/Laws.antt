@@ -2,19 +2,14 @@
 -- Assumes nothing.
 use mathlib.Core.Path.{_≡_}
 use mathlib.Core.Bool.{true, false}
-use mathlib.Core.List.{List, []}
+use mathlib.Core.List.{List}
 use Prim.Native.Nat.{ℕ, _≤_, _<_}
-use Rattle.board.specs.Answers.{Answer, gives, refuses, passed}
+use Rattle.board.specs.Answers.{Answer, passed, Checked}
 use Rattle.elimination.specs.Machine.{Machine, advance, Lasts}
 use Rattle.job.specs.Jobs.{jobFits}
 use Rattle.job.specs.declared.Job.{Job}
 use Rattle.service.specs.Service.{unfinished, infeasible, stageSays, State, next, spoiled, Service}
 use Rattle.service.specs.Demand.{Aim, Demand}
-
--- what a check says that never answers n: nothing, or another refusal
-abbrev pub Checked : ℕ → Answer → Type 0
-Checked n (gives values) = values ≡ []
-Checked n (refuses m values) = m ≡ n → ⊥
 
 -- the checks of a service never answer 9
 abbrev pub ChecksSound : Service → Type 0

@@ -1,4 +1,4 @@
--- What the checks of a working call say: nothing, or a refusal other than 9; and what they have shown where they pass.
+-- What the checks of a working call answer, which is never 9; and what they have shown where they pass.
 -- Assumes nothing.
 use mathlib.Core.Path.{_≡_}
 use mathlib.Core.List.{List}
@@ -7,15 +7,15 @@ use native.Mathlib.Omega.{arith}
 use borrow.Author.Tests.{leb-true, eqb-true}
 use lib.Dec.{leb, eqb}
 use lib.ListN.{length}
-use Rattle.board.specs.Search.{firstNot}
-use Rattle.board.specs.Answers.{Answer, gives, refuses, _then_}
-use Rattle.board.specs.Checks.{givensCheck, lengthCheck, bytesCheck, atMost, tableSize, tableCheck}
-use Rattle.board.proofs.Answers.{then-gives, unless-gives}
+use Rattle.board.specs.Answers.{Answer, gives, refuses, _then_, Checked}
+use Rattle.board.specs.Checks.{lengthCheck, tableSize, tableCheck}
+use Rattle.board.proofs.Answers.{then-gives, unless-gives, checked-then, checked-unless}
+use Rattle.edges.proofs.Theorems.{edge-checked}
 use Rattle.job.specs.Jobs.{pauseRule, readCheck}
-use Rattle.job.proofs.ReadChecks.{read-marks}
+use Rattle.job.proofs.ReadChecks.{read-marks, read-checked}
 use Rattle.service.specs.Service.{workCheck}
-use Rattle.service.specs.Laws.{Checked, ChecksSound}
-use Rattle.service.proofs.Calls.{checked-then, checked-unless, checked-at, work-passed}
+use Rattle.service.specs.Laws.{ChecksSound}
+use Rattle.service.proofs.Calls.{work-passed}
 use Rattle.service.proofs.Calls as Shared
 use Rattle.solver.specs.Working.{lentCheck}
 use Rattle.solver.specs.Units.{grid}
@@ -33,18 +33,13 @@ module _ (j : Job) (g t β : List ℕ) where
   abbrev cellsCheck : Answer
   cellsCheck = lengthCheck 5 (j .width) (j .height) β
 
-  read-checked : Checked 9 (readCheck (j .rule) (j .width) (j .height) g)
-  unfolding readCheck givensCheck
-  read-checked =
-      checked-then 9 (lengthCheck 3 (j .width) (j .height) g) (bytesCheck 4 2 g) (checked-unless 9 (eqb (length g) (j .width * j .height)) 3 (λ e. omega arith))
-      (checked-at 9 (firstNot (atMost 2 g) (length g)) 4 (λ e. omega arith))
-
-  lent-checked : Checked 9 (lentCheck j g t β)
+  -- they answer what those of what is read do, and 5 and 6
+  pub lent-checked : (n : ℕ) → (5 ≡ n → ⊥) → (6 ≡ n → ⊥) → Checked n (readCheck (j .rule) (j .width) (j .height) g) → Checked n (lentCheck j g t β)
   unfolding lentCheck
-  lent-checked =
-      checked-then 9 (readCheck (j .rule) (j .width) (j .height) g) (cellsCheck then entriesCheck) read-checked
-      (checked-then 9 cellsCheck entriesCheck (checked-unless 9 (eqb (length β) (j .width * j .height)) 5 (λ e. omega arith))
-      (checked-unless 9 (leb (tableSize (j .width) (j .height)) (length t)) 6 (λ e. omega arith)))
+  lent-checked n p q c =
+      checked-then n (readCheck (j .rule) (j .width) (j .height) g) (cellsCheck then entriesCheck) c
+      (checked-then n cellsCheck entriesCheck (checked-unless n (eqb (length β) (j .width * j .height)) 5 p)
+      (checked-unless n (leb (tableSize (j .width) (j .height)) (length t)) 6 q))
 
   -- what they have shown where they pass
   pub lent-passed : {values : List ℕ} → lentCheck j g t β ≡ gives values → (length β ≡ j .width * j .height) × (tableSize (j .width) (j .height) ≤ length t)
@@ -65,7 +60,9 @@ module _ (j : Job) (g t β : List ℕ) where
       record { taken = p .0; marks = read-marks (j .rule) (j .width) (j .height) g (b .0 .1) .long; cells = c .0; entries = c .1 }
 
 pub checks-sound : ChecksSound grid
-checks-sound j g t β = lent-checked j g t β
+checks-sound j g t β =
+    lent-checked j g t β 9 (λ e. omega arith) (λ e. omega arith)
+    (read-checked (j .rule) (j .width) (j .height) g 9 (λ e. omega arith) (λ e. omega arith) (edge-checked 9 (j .rule) (j .width) (j .height) g (λ e. omega arith)))
 
 pub work-checked : (j : Job) (g t β : List ℕ) → Checked 9 (workCheck grid j g t β)
-work-checked j g t β = Shared.work-checked grid j g t β checks-sound
+work-checked j g t β = Shared.work-checked grid j g t β 9 (λ e. omega arith) (checks-sound j g t β)

@@ -8,5 +8,6 @@ pub mod Machine
 pub mod UnitLaws
 pub mod Steps
 pub mod CheckLaws
+pub mod EdgeThrees
 pub mod Progress
 pub mod Third

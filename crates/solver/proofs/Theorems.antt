@@ -22,7 +22,7 @@ use Rattle.solver.specs.Grid.{Solution, BestBy, score, population}
 use Rattle.score_table.specs.Rows.{cellWorth, rowWorth}
 use Rattle.score_table.specs.ScoreTable.{absent, mostLive, readsOf}
 use Rattle.solver.specs.Theorems as Theorems
-use Rattle.solver.specs.Theorems.{allRows, EndingsAreSolutions, BestOrNone, best, none, ChoiceIsOptimal, rowsWorth, Greatest, greatest, RightGridLayer, EntriesRight, givenLive, GivensApart, SameBest}
+use Rattle.solver.specs.Theorems.{allRows, EndingsAreSolutions, BestOrNone, best, none, ChoiceIsOptimal, rowsWorth, Greatest, greatest, RightGridLayer, EntriesRight, liveGivens, GivensApart, SameBest}
 use Rattle.score_table.proofs.Marks.{MarkIs, isDead, isLive, isFree, mark-is, worth-dead, worth-live, worth-free}
 use Rattle.job.proofs.Fits.{Frame}
 use Rattle.solver.proofs.Endings.{kind, kind-laws, solution-ends, ends-solution}
@@ -92,7 +92,7 @@ cell-apart mark cell d l = go (mark-is mark)
     go (isFree p q) = rw (ne-eqb mark 2 q) (omega (arith, worth-free mark cell p q))
 
 pub givens-apart : GivensApart
-unfolding population score givenLive
+unfolding population score liveGivens
 givens-apart w h g board K =
     total-sum (λ p. getD board p 0) (λ p. cellWorth (getD g p 0) (getD board p 0)) (λ p. cond (eqb (getD g p 0) 2) 1 0) (w * h)
     (λ p l. cell-apart (getD g p 0) (getD board p 0) (K .dead p l) (K .live p l))
@@ -115,5 +115,5 @@ same-best rule w h g board = (
   best-same (λ a b S T l. omega (arith, apart a S, apart b T)) (λ a b S T e. omega (arith, apart a S, apart b T)),
 )
   where
-    apart : (a : List ℕ) → Solution rule w h g a → population w h a ≡ score w h g a + givenLive w h g
+    apart : (a : List ℕ) → Solution rule w h g a → population w h a ≡ score w h g a + liveGivens w h g
     apart a S = givens-apart w h g a (S .keeps)

@@ -1,6 +1,7 @@
 -- What is proved of the rules over the rows of a grid: an ending is a solution, the rows that are chosen are the wanted board, an entry is what
--- document 01, "The score table", says it is, the wanted board is the best by all live cells too, and a unit changes no byte of the board but those
--- of the row that it chooses. The third demand is stated in `Demand`, and the round trip in `Calls` of `job`.
+-- document 01, "The score table", says it is, the wanted board is the best by all live cells too, a grid turned away for an edge three has no still
+-- board that keeps the givens, and a unit changes no byte of the board but those of the row that it chooses. The third demand is stated in `Demand`,
+-- and the round trip in `Calls` of `job`.
 -- Assumes nothing.
 use mathlib.Core.Path.{_≡_}
 use mathlib.Core.Bool.{cond}
@@ -9,9 +10,10 @@ use mathlib.Core.List.{List, [], _∷_}
 use Prim.Native.Nat.{ℕ, zero, suc, _+_, _*_, _-_, _^_, _≤_, _<_}
 use lib.Dec.{eqb}
 use lib.ListN.{length, getD}
-use Rattle.board.specs.Answers.{passed}
+use Rattle.board.specs.Answers.{passed, refuses}
 use Rattle.board.specs.Boards.{Sized, Board}
 use Rattle.board.specs.Sums.{total}
+use Rattle.edges.specs.Edges.{edgeCheck}
 use Rattle.elimination.specs.Kind.{entry, rightEntry, rightRows}
 use Rattle.elimination.specs.Endings.{Ending}
 use Rattle.rule.specs.Rule.{Allowed, nextUnder}
@@ -20,7 +22,9 @@ use Rattle.life.specs.Rows.{rowOf}
 use Rattle.solver.specs.Grid.{KeepsGivens, Solution, BestBy, Optimal, score, population}
 use Rattle.score_table.specs.Rows.{rowWorth}
 use Rattle.score_table.specs.ScoreTable.{absent, mostLive, kindOf, readsOf}
-use Rattle.service.specs.Service.{next, workCheck}
+use Rattle.job.specs.Jobs.{openRule}
+use Rattle.job.specs.declared.Job.{Job}
+use Rattle.service.specs.Service.{next, workCheck, workOf}
 use Rattle.service.specs.RowUnits.{OnBoard}
 use Rattle.solver.specs.Units.{State, unitOf, grid}
 use Rattle.solver.specs.Demand.{gridKind}
@@ -82,16 +86,27 @@ EntriesRight = (rule : Rule) (w h : ℕ) (givens : List ℕ) → Sized w h → (
 
 -- ---- the score and all live cells
 -- the cells that are given live
-unfoldable pub givenLive : ℕ → ℕ → List ℕ → ℕ
-givenLive w h givens = total (λ p. cond (eqb (getD givens p 0) 2) 1 0) (w * h)
+unfoldable pub liveGivens : ℕ → ℕ → List ℕ → ℕ
+liveGivens w h givens = total (λ p. cond (eqb (getD givens p 0) 2) 1 0) (w * h)
 
 -- every board that keeps the givens has the same given live cells beside those that it scores
 abbrev pub GivensApart : Type 0
-GivensApart = (w h : ℕ) (givens board : List ℕ) → KeepsGivens w h givens board → population w h board ≡ score w h givens board + givenLive w h givens
+GivensApart = (w h : ℕ) (givens board : List ℕ) → KeepsGivens w h givens board → population w h board ≡ score w h givens board + liveGivens w h givens
 
 -- so the wanted board is the best by all live cells too
 abbrev pub SameBest : Type 0
 SameBest = (rule : Rule) (w h : ℕ) (givens board : List ℕ) → Optimal rule w h givens board ↔ BestBy (population w h) rule w h givens board
+
+-- ---- edge threes
+-- Req 04 loses nothing: a grid that has a still board that keeps the givens passes check 14, whichever call makes it, and one that opening or a working
+-- call turns away by 14 has none
+pub record EdgeThreeHasNoBoard : Type 0 where
+  pub passes : (rule : Rule) (w h : ℕ) (givens still : List ℕ) → Solution rule w h givens still → edgeCheck rule w h givens ≡ passed
+  pub opening : (rule : Rule) (w h : ℕ) (givens values : List ℕ) → openRule rule w h givens ≡ refuses 14 values
+      → (still : List ℕ) → Solution rule w h givens still → ⊥
+  pub working : (j : Job) (givens table board : List ℕ) (allowance : ℕ) (values : List ℕ)
+      → workOf grid j givens table board allowance .answer ≡ refuses 14 values
+      → (still : List ℕ) → Solution (j .rule) (j .width) (j .height) givens still → ⊥
 
 -- ---- rows go straight to the board
 -- Req 03, of a unit of a call that passed its checks: one of filling changes no byte of the board; one that chooses row k changes no byte outside row

@@ -25,7 +25,7 @@ pub struct Worked {
 }
 
 // Does units of a job until the allowance or the job is spent, over a table of h × 4^w entries or more and a board of w × h bytes.
-// Refusals 7, 3, 4, 5, 6; then 9 as met.
+// Refusals 7, 3, 4, 14, 5, 6; then 9 as met.
 pub fn work(job: Job, givens: &[u8], table: &mut [u16], board: &mut [u8], allowance: u32) -> Worked
     ensures { λ r. ⌜ Works job (now (givens .entry)) (now (table .entry)) (now (board .entry)) allowance r (now (table .exit)) (now (board .exit)) ⌝ }
 {

@@ -19,7 +19,7 @@ ghost use Rattle.solver.specs.Units.{grid};
 ghost use Rattle.solver.specs.Calls.{resultOf};
 ghost use Rattle.solver.specs.Inner.{Lent, Moves, lentState};
 
-// The checks of a working call: 7 as pausing, then 3, 4, 5, 6.
+// The checks of a working call: 7 as pausing, then 3, 4, 14, 5, 6.
 pub fn check_work(job: Job, givens: &[u8], table: &[u16], board: &[u8]) -> Check
     ensures { λ r. ⌜ checkSays r ≡ workCheck grid job (now (givens .entry)) (now (table .entry)) (now (board .entry)) ⌝ }
 {

@@ -3,6 +3,7 @@ use crate::memory;
 use crate::memory::Memory;
 use crate::plain;
 use crate::plain::Best;
+use crate::sizes;
 use crate::sizes::Size;
 use board::Refusal;
 use job::Checkpoint;
@@ -47,10 +48,15 @@ pub fn opened(rule: Rule, s: Size, givens: &[u8]) -> Job {
 
 // A job of no size, which no call takes.
 fn no_job() -> Job {
+    fresh(rule::conway(), sizes::sized(0, 0))
+}
+
+// A job at unit 0.
+pub fn fresh(rule: Rule, s: Size) -> Job {
     Job {
-        rule: rule::conway(),
-        width: 0,
-        height: 0,
+        rule,
+        width: s.w,
+        height: s.h,
         units: 0,
         stage: Stage::Filling {
             above: 0,
@@ -201,7 +207,29 @@ pub fn is_end(s: Size, best: Best, r: After) -> bool {
     is_answer(status, best) && job.units == plain::length(s, best)
 }
 
-// Whether a working call was refused, by a number, and a place where 4 gives one.
+// Whether a call on a job is refused by a number and a place, with the job handed back and nothing written.
+pub fn is_refused_by(
+    number: u8,
+    place: usize,
+    job: Job,
+    lent: Lent,
+    givens: [u8; memory::CELLS],
+    m: Memory,
+) -> bool {
+    let r = work(job, lent, &givens, m, 1000);
+    let status = r.status;
+    is_refused(status, number, place) && is_unaltered(job, m, r)
+}
+
+// Whether opening is refused, by a number and a place.
+pub fn is_opening_refused(rule: Rule, s: Size, givens: &[u8], number: u8, place: usize) -> bool {
+    match open(rule, s.w, s.h, givens, s.cells) {
+        JobResult::Ready(_) => false,
+        JobResult::Refused(r) => is_refusal(r, number, place),
+    }
+}
+
+// Whether a working call was refused, by a number, and a place where 4 and 14 give one.
 pub fn is_refused(status: Status, number: u8, place: usize) -> bool {
     match status {
         Status::Unfinished => false,
@@ -215,6 +243,7 @@ fn is_refusal(r: Refusal, number: u8, place: usize) -> bool {
     let n = r.number();
     match r {
         Refusal::Mark(p) => n == number && p == place,
+        Refusal::EdgeThree(p) => n == number && p == place,
         _ => n == number,
     }
 }

@@ -1,6 +1,7 @@
 // Forged numbers: jobs resumed over leftovers against a plain second implementation.
 use crate::calls;
 use crate::calls::After;
+use crate::edges;
 use crate::marks;
 use crate::memory;
 use crate::memory::Memory;
@@ -19,6 +20,7 @@ use std::num;
 
 // What was tried of forged jobs.
 struct Tally {
+    edges: usize,
     calls: usize,
     spoiled: usize,
     finished: usize,
@@ -38,6 +40,7 @@ struct Pair {
 // Forged jobs under a group's rules, each with its leftovers.
 pub fn try_jobs(name: &[u8], group: usize) {
     let mut t = Tally {
+        edges: 0,
         calls: 0,
         spoiled: 0,
         finished: 0,
@@ -53,6 +56,7 @@ pub fn try_jobs(name: &[u8], group: usize) {
 
 fn print(name: &[u8], t: Tally) {
     report::line(name, 6000);
+    report::line(b"  over an edge three: ", t.edges);
     report::line(b"  working calls: ", t.calls);
     report::line(b"  refused for a spoiled table: ", t.spoiled);
     report::line(b"  finished: ", t.finished);
@@ -67,6 +71,12 @@ fn try_job(rule: Rule, seed: usize, t: Tally) -> Tally {
     let JobResult::Ready(job) = numbers.resume() else {
         return differs(b"a job that resuming refuses", t);
     };
+    let mut givens = [0u8; memory::CELLS];
+    marks::write_random(&mut givens, s.cells, seed);
+    let place = edges::first(rule, s, &givens);
+    if place < s.cells {
+        return try_edge(s, seed, place, job, givens, t);
+    }
     let start = Pair {
         job,
         numbers,
@@ -74,7 +84,25 @@ fn try_job(rule: Rule, seed: usize, t: Tally) -> Tally {
         tally: t,
         differs: false,
     };
-    try_calls(s, seed, start)
+    try_calls(s, seed, givens, start)
+}
+
+// A call over an edge three is refused.
+fn try_edge(
+    s: Size,
+    seed: usize,
+    place: usize,
+    job: Job,
+    givens: [u8; memory::CELLS],
+    t: Tally,
+) -> Tally {
+    let mut next = t;
+    next.edges = num::wrapping_add_usize(t.edges, 1);
+    let m = memory::spoiled(seed);
+    if calls::is_refused_by(14, place, job, calls::exact(s), givens, m) {
+        return next;
+    }
+    differs(b"a forged job over an edge three", next)
 }
 
 fn differs(what: &[u8], t: Tally) -> Tally {
@@ -146,9 +174,7 @@ fn random_row(n: usize, seed: usize, place: usize) -> usize {
 }
 
 // Calls until one differs, six at most.
-fn try_calls(s: Size, seed: usize, start: Pair) -> Tally {
-    let mut givens = [0u8; memory::CELLS];
-    marks::write_random(&mut givens, s.cells, seed);
+fn try_calls(s: Size, seed: usize, givens: [u8; memory::CELLS], start: Pair) -> Tally {
     let mut p = start;
     for k in 0..6 {
         p = try_call(s, random::allowance(s.entries, seed, k + 600000), givens, p);

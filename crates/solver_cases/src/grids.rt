@@ -1,6 +1,7 @@
 // Grids of givens against plain enumeration: each in one run, and again in pieces.
 use crate::calls;
 use crate::calls::After;
+use crate::edges;
 use crate::marks;
 use crate::memory;
 use crate::pieces;
@@ -17,10 +18,13 @@ use std::num;
 struct Counts {
     grids: usize,
     boards: usize,
+    // With an edge three.
+    edges: usize,
     wrong: usize,
-    // In pieces: working calls that passed, calls refused, differences.
+    // In pieces: working calls that passed, calls refused, those of them over an edge three, differences.
     calls: usize,
     refused: usize,
+    refused_edges: usize,
     unlike: usize,
 }
 
@@ -28,9 +32,11 @@ fn nothing() -> Counts {
     Counts {
         grids: 0,
         boards: 0,
+        edges: 0,
         wrong: 0,
         calls: 0,
         refused: 0,
+        refused_edges: 0,
         unlike: 0,
     }
 }
@@ -52,7 +58,11 @@ pub fn try_rules() {
 fn print(name: &[u8], c: Counts) {
     report::line(name, c.grids);
     report::line(b"  with a still board: ", c.boards);
-    report::line(b"  with none: ", num::wrapping_sub_usize(c.grids, c.boards));
+    report::line(b"  with an edge three: ", c.edges);
+    report::line(
+        b"  with none: ",
+        num::wrapping_sub_usize(num::wrapping_sub_usize(c.grids, c.boards), c.edges),
+    );
     report::line(b"  differences from enumeration: ", c.wrong);
     print_pieces(c);
 }
@@ -60,6 +70,7 @@ fn print(name: &[u8], c: Counts) {
 fn print_pieces(c: Counts) {
     report::line(b"  working calls in pieces: ", c.calls);
     report::line(b"  calls refused in between: ", c.refused);
+    report::line(b"  of them over an edge three: ", c.refused_edges);
     report::line(b"  differences from one run: ", c.unlike);
 }
 
@@ -123,10 +134,45 @@ fn try_seed(group: usize, s: Size, counts: Counts) -> Counts {
     try_grid(rules::of_group(group, seed), s, seed, givens, counts)
 }
 
-// One run over leftovers, and pieces over others.
+// A grid with an edge three is turned away; any other is run.
 fn try_grid(rule: Rule, s: Size, seed: usize, givens: [u8; memory::CELLS], c: Counts) -> Counts {
-    let job = calls::opened(rule, s, &givens);
     let best = plain::best_board(rule, s, &givens);
+    let place = edges::first(rule, s, &givens);
+    if place < s.cells {
+        return try_edge(rule, s, place, best, givens, c);
+    }
+    run_grid(rule, s, seed, best, givens, c)
+}
+
+// Opening and working refuse the grid, and enumeration finds no board.
+fn try_edge(
+    rule: Rule,
+    s: Size,
+    place: usize,
+    best: Best,
+    givens: [u8; memory::CELLS],
+    c: Counts,
+) -> Counts {
+    let mut next = c;
+    next.grids = num::wrapping_add_usize(c.grids, 1);
+    next.edges = num::wrapping_add_usize(c.edges, 1);
+    if best.found || !edges::is_turned_away(rule, s, place, givens) {
+        next.wrong = num::wrapping_add_usize(c.wrong, marks::difference(b"an edge three"));
+        marks::print_grid(rule, s, givens);
+    }
+    next
+}
+
+// One run over leftovers, and pieces over others.
+fn run_grid(
+    rule: Rule,
+    s: Size,
+    seed: usize,
+    best: Best,
+    givens: [u8; memory::CELLS],
+    c: Counts,
+) -> Counts {
+    let job = calls::opened(rule, s, &givens);
     let r = calls::work(
         job,
         calls::exact(s),
@@ -154,9 +200,11 @@ fn counted(c: Counts, best: Best, wrong: usize, p: Pieces) -> Counts {
     Counts {
         grids: num::wrapping_add_usize(c.grids, 1),
         boards: num::wrapping_add_usize(c.boards, if best.found { 1 } else { 0 }),
+        edges: c.edges,
         wrong: num::wrapping_add_usize(c.wrong, wrong),
         calls: num::wrapping_add_usize(c.calls, p.calls),
         refused: num::wrapping_add_usize(c.refused, p.refused),
+        refused_edges: num::wrapping_add_usize(c.refused_edges, p.edges),
         unlike: num::wrapping_add_usize(c.unlike, p.wrong),
     }
 }

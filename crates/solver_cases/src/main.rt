@@ -1,5 +1,7 @@
-// Tries the solver: every small grid against plain enumeration, the same in random pieces, other rules, and forged numbers. Prints what was tried.
+// Tries the solver: every small grid against plain enumeration, the same in random pieces, other rules, edge threes, and forged
+// numbers. Prints what was tried.
 mod calls;
+mod edges;
 mod forged;
 mod grids;
 mod marks;
@@ -15,6 +17,10 @@ mod unit;
 fn main() {
     grids::try_all();
     grids::try_rules();
+    edges::try_lines(b"every grid of 1 by 9 and 9 by 1: ", 0);
+    edges::try_lines(b"the same under pseudo-random rules: ", 5);
+    edges::try_random(b"pseudo-random grids up to 4 by 4, a third live: ", 0);
+    edges::try_random(b"the same under pseudo-random rules: ", 5);
     forged::try_jobs(b"forged jobs: ", 0);
     forged::try_jobs(b"forged jobs under other rules: ", 5);
     numbers::try_all();

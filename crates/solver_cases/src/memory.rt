@@ -3,7 +3,7 @@ use crate::calls;
 use crate::random;
 use std::num;
 
-// The entries and the cells of the memory, more than any size tried needs.
+// The entries and the cells of the memory, more than any size tried needs but 9 by 1, which is refused by 6.
 pub const ENTRIES: usize = 1100;
 
 pub const CELLS: usize = 128;

@@ -1,12 +1,14 @@
 // A run in pieces: random allowances, each call after a pause and a resumption, and calls in between that must be refused.
 use crate::calls;
 use crate::calls::Lent;
+use crate::edges;
 use crate::marks;
 use crate::memory;
 use crate::memory::Memory;
 use crate::plain;
 use crate::plain::Best;
 use crate::random;
+use crate::sizes;
 use crate::sizes::Size;
 use job::Job;
 use job::Stage;
@@ -17,6 +19,8 @@ use std::num;
 pub struct Pieces {
     pub calls: usize,
     pub refused: usize,
+    // Of those refused, the ones over an edge three.
+    pub edges: usize,
     pub wrong: usize,
 }
 
@@ -27,6 +31,7 @@ struct Turn {
     sum: usize,
     calls: usize,
     refused: usize,
+    edges: usize,
     wrong: usize,
 }
 
@@ -45,12 +50,14 @@ pub fn run(
         sum: 0,
         calls: 0,
         refused: 0,
+        edges: 0,
         wrong: 0,
     };
     let last = turns(s, seed, best, givens, start);
     Pieces {
         calls: last.calls,
         refused: last.refused,
+        edges: last.edges,
         wrong: after(s, seed, best, last, givens, one),
     }
 }
@@ -121,11 +128,15 @@ fn next_turn(s: Size, seed: usize, best: Best, givens: [u8; memory::CELLS], t: T
         return work_turn(s, seed, best, givens, t);
     }
     let m = t.memory;
-    if !is_turned_away(s, kind, job, givens, m) {
+    let place = edge_of(s, kind, job, givens);
+    if !is_turned_away(s, kind, place, job, givens, m) {
         return differs(b"a call to be refused", t);
     }
     let mut next = t;
     next.refused = num::wrapping_add_usize(t.refused, 1);
+    if place < s.cells {
+        next.edges = num::wrapping_add_usize(t.edges, 1);
+    }
     work_turn(s, seed, best, givens, next)
 }
 
@@ -144,6 +155,7 @@ fn work_turn(s: Size, seed: usize, best: Best, givens: [u8; memory::CELLS], t: T
         sum: num::wrapping_add_usize(t.sum, plain::wide(allowance)),
         calls: num::wrapping_add_usize(t.calls, 1),
         refused: t.refused,
+        edges: t.edges,
         wrong: 0,
     };
     judged(s, best, status, turn)
@@ -165,14 +177,24 @@ fn judged(s: Size, best: Best, status: Status, t: Turn) -> Turn {
 }
 
 // Whether a call that breaks one rule is refused by its number, with the job handed back and nothing written.
-fn is_turned_away(s: Size, kind: usize, job: Job, givens: [u8; memory::CELLS], m: Memory) -> bool {
+fn is_turned_away(
+    s: Size,
+    kind: usize,
+    place: usize,
+    job: Job,
+    givens: [u8; memory::CELLS],
+    m: Memory,
+) -> bool {
+    if place < s.cells {
+        return calls::is_refused_by(14, place, job, calls::exact(s), with_edge(s, givens), m);
+    }
     if kind == 5 {
         return is_mark_refused(s, job, givens, m);
     }
     if 5 < kind {
-        return is_refused_by(7, 0, forged(job, kind), calls::exact(s), givens, m);
+        return calls::is_refused_by(7, 0, forged(job, kind), calls::exact(s), givens, m);
     }
-    is_refused_by(number_of(kind), 0, job, wrong_length(s, kind), givens, m)
+    calls::is_refused_by(number_of(kind), 0, job, wrong_length(s, kind), givens, m)
 }
 
 // The refusal for a wrong length.
@@ -204,17 +226,23 @@ fn wrong_length(s: Size, kind: usize) -> Lent {
     }
 }
 
-fn is_refused_by(
-    number: u8,
-    place: usize,
-    job: Job,
-    lent: Lent,
-    givens: [u8; memory::CELLS],
-    m: Memory,
-) -> bool {
-    let r = calls::work(job, lent, &givens, m, 1000);
-    let status = r.status;
-    calls::is_refused(status, number, place) && calls::is_unaltered(job, m, r)
+// The place of the edge three that a call lends, at odd units; the number of cells where it lends none.
+fn edge_of(s: Size, kind: usize, job: Job, givens: [u8; memory::CELLS]) -> usize {
+    if kind != 5 || job.units % 2 == 0 {
+        return s.cells;
+    }
+    let rule = job.rule;
+    edges::first(rule, s, &with_edge(s, givens))
+}
+
+// The givens with three live marks from the first cell on, along row 1 or column 1.
+fn with_edge(s: Size, givens: [u8; memory::CELLS]) -> [u8; memory::CELLS] {
+    let step = if s.w < 3 { s.w } else { 1 };
+    let mut next = givens;
+    next[0] = 2;
+    next[step % memory::CELLS] = 2;
+    next[sizes::times(step, 2) % memory::CELLS] = 2;
+    next
 }
 
 // A call with a bad mark.
@@ -225,7 +253,7 @@ fn is_mark_refused(s: Size, job: Job, givens: [u8; memory::CELLS], m: Memory) ->
     }
     let mut bad = givens;
     bad[p] = 3;
-    is_refused_by(4, p, job, calls::exact(s), bad, m)
+    calls::is_refused_by(4, p, job, calls::exact(s), bad, m)
 }
 
 // A job whose numbers break a rule: its stage does not fit, its rule has birth on 0, or its units are too many.

@@ -11,12 +11,6 @@ Inv-loop s seed givens p₀ k₀ p k = k ≤ 6
 abbrev μ-loop : tie.MeasureT-loop
 μ-loop s seed givens p₀ k₀ p k = 6 - k
 
-slice-aggregate-write-random : tie.Need-slice-aggregate-write-random Inv-loop μ-loop
-slice-aggregate-write-random c = search needs
-
-write-random-requires : tie.Need-write-random-requires Inv-loop μ-loop
-write-random-requires c κs = search needs
-
 loop-holds : tie.Need-loop-holds Inv-loop μ-loop
 loop-holds c = search needs
 
@@ -47,8 +41,6 @@ try-calls-spec =
     (tie.spec
     Inv-loop
     μ-loop
-    slice-aggregate-write-random
-    write-random-requires
     loop-holds
     add-allowance
     allowance-requires
