@@ -1,5 +1,5 @@
--- Document 01, "Known boards": M1 to M10, the free 3 by 3 grid, grids with live givens, edge threes, a spoiled table, rows written, and texts, stated of the rules
--- themselves.
+-- Document 01, "Known boards": M1 to M10, the free 3 by 3 grid, grids with live givens, edge threes, a spoiled table, rows written, and texts, stated
+-- of the rules themselves.
 -- Assumes nothing.
 use mathlib.Core.Path.{_≡_}
 use mathlib.Core.List.{List, [], _∷_}
