@@ -15,4 +15,5 @@ pub mod Completion
 pub mod FillThenChoose
 pub mod TwoLayers
 pub mod Shape
+pub mod Rounds
 pub mod Progress

@@ -9,10 +9,10 @@ use native.Mathlib.Omega.{arith}
 use borrow.Author.Tests.{ltb-true, ltb-false, leb-true, eqb-true, lt-ltb, le-leb, lt-leb, eq-eqb, ne-eqb}
 use lib.Dec.{eqb, leb, ltb}
 use Rattle.board.proofs.Tests.{and-left, and-right, and-true}
-use Rattle.elimination.specs.Task.{Task, fill, row}
+use Rattle.elimination.specs.Task.{Task, fill, row, isFill}
 use Rattle.elimination.specs.FillThenChoose as Whole
 use Rattle.elimination.specs.TwoLayers as Two
-use Rattle.elimination.specs.Shape.{Shape, Numbers, unitsFit, rowsChosen, rowsFit, numbersFit, afterEntry, afterNone, ShapeLaws, NumbersGoOn, whole, chosenFrom, twoLayers, ShapesLawful}
+use Rattle.elimination.specs.Shape.{Shape, Numbers, unitsFit, rowsChosen, rowsFit, numbersFit, entriesFilled, afterEntry, afterNone, ShapeLaws, NumbersGoOn, whole, chosenFrom, twoLayers, ShapesLawful}
 use Rattle.elimination.proofs.Numbers.{lt-or-ge}
 use Rattle.elimination.proofs.Task.{row-not-fill}
 use Rattle.elimination.proofs.FillThenChoose.{plan-fill, plan-late}
@@ -178,6 +178,17 @@ module _ (S : Shape) (L : ShapeLaws S) where
           ⊎-elim (λ (a : suc r < S .rows). rw (L .chooses m r source (omega arith) p .1) a)
           (λ (a : S .rows ≤ suc r). absurd (omega (arith, L .ends m r source (omega arith) p a))) (lt-or-ge (suc r) (S .rows))
 
+  -- the units are the entries filled and the rows chosen
+  pub units-split : (m : ℕ) → m ≤ S .boardLength → m ≡ entriesFilled (S .plan) m + S .chosen m
+  unfolding entriesFilled
+  units-split zero l = omega (arith, L .none-chosen)
+  units-split (suc m) l = go (S .plan m) refl (units-split m (omega arith))
+    where
+      go : (o : Task) → S .plan m ≡ o → m ≡ entriesFilled (S .plan) m + S .chosen m
+          → suc m ≡ entriesFilled (S .plan) m + cond (isFill (S .plan m)) 1 0 + S .chosen (suc m)
+      go (fill k source target j) p i = rw p (omega (arith, i, L .fills m k source target j (omega arith) p .0))
+      go (row r source) p i = let c = L .chooses m r source (omega arith) p in rw p (omega (arith, i, c .0, c .1))
+
   -- before the length of none no row is chosen
   pub chosen-late : S .noneLength ≤ S .boardLength → (m : ℕ) → m < S .noneLength → S .chosen m ≡ 0
   chosen-late short zero l = L .none-chosen
@@ -254,7 +265,7 @@ module _ (h q : ℕ) where
       let e : suc (Two.startOf h q r + (h - r) * q) ≡ Two.startOf h q (suc r) + 0 = omega (arith, Twos.start-more h q r) in
       ap (chosenFrom q h) e ∙ omega (arith, chosen-from (suc r) l 0, chosen-last (h - suc r))
 
-two-lawful : (codes h most : ℕ) → 0 < codes → 0 < h → ShapeLaws (twoLayers codes h most)
+pub two-lawful : (codes h most : ℕ) → 0 < codes → 0 < h → ShapeLaws (twoLayers codes h most)
 two-lawful codes h most wide high = record {
   none-chosen = chosen-last h q h;
   fills = fills;

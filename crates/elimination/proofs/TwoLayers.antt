@@ -19,6 +19,15 @@ use Rattle.elimination.proofs.Task.{row-not-fill}
 use Rattle.elimination.proofs.Places.{orderly-sound}
 use Rattle.elimination.proofs.Completion.{job-completes}
 
+-- one of two neighbouring numbers is even
+record Pairs (h : ℕ) : Type 0 where
+  half : ℕ
+  twice : h * (h + 1) ≡ half + half
+
+pairs : (h : ℕ) → Pairs h
+pairs zero = record { half = 0; twice = omega arith }
+pairs (suc n) = let P = pairs n in record { half = P .half + suc n; twice = omega (arith, P .twice) }
+
 -- ---- the plan, filling by filling
 module _ (h q : ℕ) where
   pub start-more : (r : ℕ) → startOf h q (suc r) ≡ suc (startOf h q r + (h - r) * q)
@@ -67,6 +76,14 @@ module _ (h q : ℕ) where
       let d′ : h - (h - suc r) ≡ r + 1 = omega arith in
       plan-from r (omega arith) ((h - r) * q) ∙ ap (λ (x : ℕ). planFrom h q x (x * q)) e ∙ from-row (h - suc r) ∙ ap₂ (λ (x y : ℕ). row x (half q y)) d d′
 
+  -- and past the last row
+  pub plan-past : (u : ℕ) → startOf h q h ≤ u → isFill (plan h q u) ≡ false
+  unfolding planFrom
+  plan-past u l =
+      let e : h - h ≡ 0 = omega arith in
+      let d : u ≡ startOf h q h + (u - startOf h q h) = omega arith in
+      ap isFill (ap (plan h q) d ∙ plan-from h (omega arith) (u - startOf h q h) ∙ ap (λ (n : ℕ). planFrom h q n (u - startOf h q h)) e)
+
   -- every unit of the job is one of these
   pub record Located (u : ℕ) : Type 0 where
     pub before : ℕ
@@ -94,7 +111,16 @@ module _ (h q : ℕ) where
       omega (arith, i, s, f)
 
   pub two-lengths : Lengths h q
-  two-lengths = let e : h - h ≡ 0 = omega arith in record { board = omega (arith, rw e at (start-length h (omega arith))); none = let d : h - 0 ≡ h = omega arith in rw d (omega arith) }
+  two-lengths =
+      let e : h - h ≡ 0 = omega arith in
+      let s = rw e at (start-length h (omega arith)) in
+      let d : h - 0 ≡ h = omega arith in
+      record { board = go (pairs h) s; none = rw d (omega arith) }
+    where
+      go : Pairs h → 2 * startOf h q h + 0 * (0 + 1) * q ≡ h * (h + 1) * q + 2 * h → startOf h q h ≡ h * (h + 1) / 2 * q + h
+      go P s =
+          let n : h * (h + 1) / 2 ≡ P .half = omega (arith, P .twice) in
+          rw n (let m : h * (h + 1) * q ≡ (P .half + P .half) * q = ap (λ (x : ℕ). x * q) (P .twice) in omega (arith, m))
 
 -- ---- what a unit does
 pub data Does (h q u : ℕ) : Type 0 where

@@ -15,5 +15,6 @@ pub mod Completion
 pub mod FillThenChoose
 pub mod TwoLayers
 pub mod Shape
+pub mod Rounds
 pub mod Rows
 pub mod Progress

@@ -4,7 +4,7 @@ use mathlib.Core.Path.{_≡_}
 use mathlib.Core.Bool.{Bool, true, false, cond, _&&_}
 use Prim.Native.Nat.{ℕ, zero, suc, _+_, _-_, _*_, _≤_, _<_}
 use lib.Dec.{eqb, leb, ltb}
-use Rattle.elimination.specs.Task.{Task, fill, row}
+use Rattle.elimination.specs.Task.{Task, fill, row, isFill}
 use Rattle.elimination.specs.FillThenChoose as Whole
 use Rattle.elimination.specs.TwoLayers as Two
 
@@ -48,6 +48,11 @@ afterNone n = record { units = suc (n .units); above = n .above; last = n .last;
 -- with k rows chosen, each worth at most `most`, live is at most what they are worth, last row is 0 if k = 0, row above is 0 if k is below 2
 unfoldable pub rowsFit : ℕ → ℕ → ℕ → ℕ → ℕ → Bool
 rowsFit most k above last live = leb live (most * k) && cond (eqb k 0) (eqb last 0) true && cond (ltb k 2) (eqb above 0) true
+
+-- the entries that the first u units of a plan fill
+unfoldable pub entriesFilled : (ℕ → Task) → ℕ → ℕ
+entriesFilled plan zero = 0
+entriesFilled plan (suc u) = entriesFilled plan u + cond (isFill (plan u)) 1 0
 
 module _ (S : Shape) where
   -- units by the end mark: below the length for mark 0, equal to it for mark 1, the length of none for mark 2; no other mark

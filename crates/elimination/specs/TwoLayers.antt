@@ -43,7 +43,7 @@ schedule h q = record { start = startOf h q; work = λ r. (h - r) * q; source = 
 
 -- a job's length: where there is a board, h × (h + 1) ÷ 2 × q + h, and where there is none
 pub record Lengths (h q : ℕ) : Type 0 where
-  pub board : 2 * schedule h q .start h ≡ h * (h + 1) * q + 2 * h
+  pub board : schedule h q .start h ≡ h * (h + 1) / 2 * q + h
   pub none : suc (schedule h q .work 0) ≡ h * q + 1
 
 module _ {X B : Type 0} (G : Kind X) (h : ℕ) (write : ℕ → ℕ → B → B) where
