@@ -31,7 +31,7 @@ atMost most bytes place = leb (getD bytes place 0) most
 abbrev pub bytesCheck : ℕ → ℕ → List ℕ → Answer
 bytesCheck n most bytes = refuseAt (firstNot (atMost most bytes) (length bytes)) n
 
--- the entries of a grid's score table: h × 4^w
+-- the entries of a table of h layers: h × 4^w; of a grid's whole table where h is its height
 unfoldable pub tableSize : ℕ → ℕ → ℕ
 tableSize w h = h * 4 ^ w
 

@@ -129,7 +129,7 @@ pub fn check_givens(w: usize, h: usize, givens: &[u8]) -> Check
     }
 }
 
-// The entries of a grid's table, h × 4^w; 0 where the width or the height is past its limit.
+// The entries of a table of h layers, h × 4^w; 0 where the width or the height is past its limit.
 pub fn table_size(w: usize, h: usize) -> usize
     ensures { λ r. ⌜ r ≡ tableSizeWithin w h ⌝ }
 {
@@ -142,7 +142,7 @@ pub fn table_size(w: usize, h: usize) -> usize
     h << (2 * w)
 }
 
-// 6: h × 4^w entries or more, for any w and h: the product is never formed.
+// 6: h layers of 4^w entries or more, for any w and h: the product is never formed.
 pub fn check_table(w: usize, h: usize, table: &[u16]) -> Check
     ensures { λ r. ⌜ checkSays r ≡ tableCheck w h (now (table .entry)) ⌝ }
 {

@@ -2,6 +2,7 @@
 use job::Checkpoint;
 use job::Job;
 use job::JobResult;
+use job::Kind;
 use job::Paused;
 use solver::Status;
 
@@ -9,7 +10,7 @@ fn main() {
     let givens = [0u8; 4]; // 2 by 2, every cell free
     let mut table = [7u16; 32]; // 2 × 4^2 entries, with leftovers
     let mut board = [9u8; 4];
-    match job::open(rule::conway(), 2, 2, &givens) {
+    match job::open(Kind::Ordinary, rule::conway(), 2, 2, &givens) {
         JobResult::Ready(job) => work_and_pause(job, &givens, &mut table, &mut board),
         JobResult::Refused(r) => report::refusal(r),
     }
@@ -28,7 +29,7 @@ fn work_and_pause(job: Job, givens: &[u8], table: &mut [u16], board: &mut [u8]) 
 
 fn resume_and_work(numbers: Checkpoint, givens: &[u8], table: &mut [u16], board: &mut [u8]) {
     print_numbers(numbers);
-    match numbers.resume() {
+    match numbers.resume(Kind::Ordinary) {
         JobResult::Ready(job) => {
             let worked = solver::work(job, givens, table, board, 1000);
             let status = worked.status;
@@ -58,7 +59,8 @@ fn print_numbers(n: Checkpoint) {
     print_number(n.live);
     print_number(n.mark);
     print_number(n.births);
-    report::line(b"", n.survivals);
+    print_number(n.survivals);
+    report::line(b"", n.kind);
 }
 
 fn print_number(n: usize) {

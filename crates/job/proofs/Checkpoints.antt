@@ -1,4 +1,4 @@
--- What the tests of nine numbers show one after the other, and that the job of nine numbers that fit has those numbers.
+-- What the tests of ten numbers show one after the other, and that the job of ten numbers that fit has those numbers.
 -- Assumes nothing.
 use mathlib.Core.Path.{_≡_, refl, _∙_, ap}
 use mathlib.Core.Bool.{Bool, true, false, not, _&&_}
@@ -15,12 +15,14 @@ use Rattle.board.specs.Checks.{sizeCheck}
 use Rattle.elimination.specs.Task.{isFill}
 use Rattle.elimination.specs.Shape.{Shape, rowsChosen}
 use Rattle.elimination.proofs.Shape.{Rows, Units, runs, ends, fails}
+use Rattle.elimination.proofs.Rounds.{chosen-most}
 use Rattle.rule.specs.Rule.{ruleFits, ruleCheck, gridCheck}
 use Rattle.rule.specs.declared.Rule.{Rule}
 use Rattle.job.specs.Jobs.{shapeOf, checkpointFits, numbersOf, stageFits, jobFits, stageOf, jobOf, jobSays, checkpointSays}
+use Rattle.job.specs.declared.Kind.{Kind}
 use Rattle.job.specs.declared.Checkpoint.{Checkpoint}
-use Rattle.job.proofs.Shapes.{board-long}
-use Rattle.job.proofs.Fits.{numbers-at, heard}
+use Rattle.job.proofs.Shapes.{shape-lawful, shape-rounds}
+use Rattle.job.proofs.Fits.{NumbersFit, numbers-at, heard}
 
 -- ---- the size and the rule
 pub frame-misfits : (rule : Rule) (w h : ℕ) {n : ℕ} {vs : List ℕ} → gridCheck rule w h ≡ refuses n vs → among maxWidth w && among maxHeight h && ruleFits rule ≡ false
@@ -42,13 +44,13 @@ pub shift-some : (x w : ℕ) → (x / 2 ^ w ≡ 0 → ⊥) → 2 ^ w ≤ x
 shift-some x w n = elim (decLt x (2 ^ w)) [ yes l ↦ absurd (n (div-eq-of-lt l)) | no l ↦ omega arith ]
 
 -- at most h rows are chosen where the units fit
-pub chosen-le : (w h units mark : ℕ) → Units (shapeOf w h) units mark → rowsChosen (shapeOf w h) units mark ≤ h
+pub chosen-le : (kind : Kind) (w h units mark : ℕ) → 0 < h → Units (shapeOf kind w h) units mark → rowsChosen (shapeOf kind w h) units mark ≤ h
 unfolding rowsChosen
-chosen-le w h units mark (runs l) = omega (arith, board-long w h)
-chosen-le w h units mark (ends q) = omega (arith, board-long w h)
-chosen-le w h units mark (fails q) = omega arith
+chosen-le kind w h units mark high (runs l) = chosen-most (shape-rounds w h kind) (shape-lawful w h kind high) (omega arith)
+chosen-le kind w h units mark high (ends q) = chosen-most (shape-rounds w h kind) (shape-lawful w h kind high) (omega arith)
+chosen-le kind w h units mark high (fails q) = omega arith
 
--- ---- the job of nine numbers
+-- ---- the job of ten numbers
 -- with no row chosen the two rows and the live cells are 0
 record NoRows (above last live : ℕ) : Type 0 where
   over : above ≡ 0
@@ -60,38 +62,41 @@ no-rows {most} {k} {above} {last} {live} r e =
     let l : live ≤ most * 0 = rw e at (r .few) in record { over = r .one (omega arith); below = r .none e; few = omega arith }
 
 -- it has those numbers
-pub numbers-back : (t : Checkpoint) → checkpointFits t ≡ true → jobSays (jobOf t) ≡ checkpointSays t
+pub numbers-back : (kind : Kind) (t : Checkpoint) → checkpointFits kind t ≡ true → jobSays (jobOf kind t) ≡ checkpointSays t
 unfolding stageOf rowsChosen
-numbers-back t e = go (t .mark) (numbers-at t e .are .units) refl
+numbers-back kind t e = go (t .mark) (F .are .units) refl
   where
+    F : NumbersFit kind t
+    F = numbers-at kind t e
+
     S : Shape
-    S = shapeOf (t .width) (t .height)
+    S = shapeOf kind (t .width) (t .height)
 
-    running : t .mark ≡ 0 → (b : Bool) → isFill (shapeOf (t .width) (t .height) .plan (t .units)) ≡ b → jobSays (jobOf t) ≡ checkpointSays t
-    running m true r = rw (m, r)
-    running m false r = rw (m, r)
+    running : t .mark ≡ 0 → (b : Bool) → isFill (shapeOf kind (t .width) (t .height) .plan (t .units)) ≡ b → jobSays (jobOf kind t) ≡ checkpointSays t
+    running m true r = rw (m, r, F .of)
+    running m false r = rw (m, r, F .of)
 
-    go : (mark : ℕ) → Units S (t .units) mark → t .mark ≡ mark → jobSays (jobOf t) ≡ checkpointSays t
-    go mark (runs l) m = running m (isFill (shapeOf (t .width) (t .height) .plan (t .units))) refl
-    go mark (ends q) m = rw m
-    go mark (fails q) m = let n = no-rows (numbers-at t e .are .rows) (rw m) in rw (m, n .over, n .below, n .few)
+    go : (mark : ℕ) → Units S (t .units) mark → t .mark ≡ mark → jobSays (jobOf kind t) ≡ checkpointSays t
+    go mark (runs l) m = running m (isFill (shapeOf kind (t .width) (t .height) .plan (t .units))) refl
+    go mark (ends q) m = rw (m, F .of)
+    go mark (fails q) m = let n = no-rows (F .are .rows) (rw m) in rw (m, n .over, n .below, n .few, F .of)
 
-pub numbers-of-job : (t : Checkpoint) → checkpointFits t ≡ true → numbersOf (jobOf t) ≡ t
-numbers-of-job t e = ap heard (numbers-back t e)
+pub numbers-of-job : (kind : Kind) (t : Checkpoint) → checkpointFits kind t ≡ true → numbersOf (jobOf kind t) ≡ t
+numbers-of-job kind t e = ap heard (numbers-back kind t e)
 
 -- and it fits
-pub resumed-fits : (t : Checkpoint) → checkpointFits t ≡ true → jobFits (jobOf t) ≡ true
+pub resumed-fits : (kind : Kind) (t : Checkpoint) → checkpointFits kind t ≡ true → jobFits (jobOf kind t) ≡ true
 unfolding jobFits stageOf
-resumed-fits t e = and-true (ap checkpointFits (numbers-of-job t e) ∙ e) (go (t .mark) (numbers-at t e .are .units) refl)
+resumed-fits kind t e = and-true (ap (checkpointFits kind) (numbers-of-job kind t e) ∙ e) (go (t .mark) (numbers-at kind t e .are .units) refl)
   where
     fits : Type 0
-    fits = stageFits (shapeOf (t .width) (t .height)) (t .units) (jobOf t .stage) ≡ true
+    fits = stageFits (shapeOf kind (t .width) (t .height)) (t .units) (jobOf kind t .stage) ≡ true
 
-    running : t .mark ≡ 0 → (b : Bool) → isFill (shapeOf (t .width) (t .height) .plan (t .units)) ≡ b → fits
+    running : t .mark ≡ 0 → (b : Bool) → isFill (shapeOf kind (t .width) (t .height) .plan (t .units)) ≡ b → fits
     running m true r = rw (m, r) r
     running m false r = rw (m, r) (ap not r)
 
-    go : (mark : ℕ) → Units (shapeOf (t .width) (t .height)) (t .units) mark → t .mark ≡ mark → fits
-    go mark (runs l) m = running m (isFill (shapeOf (t .width) (t .height) .plan (t .units))) refl
+    go : (mark : ℕ) → Units (shapeOf kind (t .width) (t .height)) (t .units) mark → t .mark ≡ mark → fits
+    go mark (runs l) m = running m (isFill (shapeOf kind (t .width) (t .height) .plan (t .units))) refl
     go mark (ends q) m = rw m
     go mark (fails q) m = rw m

@@ -1,11 +1,12 @@
 -- Which numbers resuming takes and which jobs pausing and working take, as facts; and that the job resumed is the one paused.
 -- Assumes nothing.
-use mathlib.Core.Path.{_≡_, refl, sym, _∙_, ap}
-use mathlib.Core.Bool.{true, _&&_}
-use mathlib.Core.List.{List}
+use mathlib.Core.Path.{_≡_, refl, sym, _∙_, ap, ap₂}
+use mathlib.Core.Bool.{Bool, true, false, _&&_}
+use mathlib.Core.List.{List, []}
 use Prim.Native.Nat.{ℕ}
 use native.Mathlib.Omega.{arith}
-use borrow.Author.Tests.{not-true}
+use borrow.Author.Tests.{not-true, eq-eqb, eqb-true}
+use lib.Dec.{eqb}
 use lib.ListN.{getD}
 use lib.Pow.{pow-pos}
 use Rattle.board.specs.Answers.{Answer, gives, refuses, refuseUnless}
@@ -19,15 +20,16 @@ use Rattle.elimination.proofs.Shape as Shapes
 use Rattle.rule.specs.Rule.{Allowed, ruleFits}
 use Rattle.rule.specs.declared.Rule.{Rule}
 use Rattle.rule.proofs.Rules.{fits-allowed, allowed-fits}
-use Rattle.job.specs.Jobs.{shapeOf, ruleOf, numbersIn, checkpointFits, numbersOf, checkpointSays, jobSays, stageFits, jobFits, stageOf, start, jobOf, pauseRule, resumeRule, pausedSays, jobResultSays}
+use Rattle.job.specs.Jobs.{kindNumber, shapeOf, ruleOf, numbersIn, checkpointFits, numbersOf, checkpointSays, jobSays, stageFits, jobFits, stageOf, start, jobOf, pauseRule, resumeRule, pausedSays, jobResultSays}
 use Rattle.job.specs.Calls.{RoundTrip, Pausable}
+use Rattle.job.specs.declared.Kind.{Kind}
 use Rattle.job.specs.declared.Stage.{Stage}
 use Rattle.job.specs.declared.Job.{Job}
 use Rattle.job.specs.declared.Checkpoint.{Checkpoint}
 use Rattle.job.specs.declared.JobResult.{JobResult}
-use Rattle.job.proofs.Shapes.{shape-lawful, board-long, table-pos, fills-at}
+use Rattle.job.proofs.Shapes.{number-tells, shape-lawful, shorter, fills-first}
 
--- ---- the nine numbers
+-- ---- the ten numbers
 -- a size and a rule that opening takes
 pub record Frame (rule : Rule) (w h : ℕ) : Type 0 where
   pub size : Sized w h
@@ -37,77 +39,88 @@ pub frame-fits : {rule : Rule} {w h : ℕ} → Frame rule w h → among maxWidth
 frame-fits {rule} {w} {h} z =
     rw (among-yes maxWidth w (z .size .some-column) (z .size .narrow), among-yes maxHeight h (z .size .some-row) (z .size .low)) (allowed-fits rule (z .allowed))
 
-pub record NumbersFit (t : Checkpoint) : Type 0 where
+pub record NumbersFit (kind : Kind) (t : Checkpoint) : Type 0 where
+  pub of : t .kind ≡ kindNumber kind
   pub frame : Frame (ruleOf t) (t .width) (t .height)
-  pub fit : numbersFit (shapeOf (t .width) (t .height)) (numbersIn t) ≡ true
-  pub are : NumbersAre (shapeOf (t .width) (t .height)) (numbersIn t)
+  pub fit : numbersFit (shapeOf kind (t .width) (t .height)) (numbersIn t) ≡ true
+  pub are : NumbersAre (shapeOf kind (t .width) (t .height)) (numbersIn t)
 
-pub numbers-of : (t : Checkpoint) → Frame (ruleOf t) (t .width) (t .height) → numbersFit (shapeOf (t .width) (t .height)) (numbersIn t) ≡ true
-    → checkpointFits t ≡ true
+pub numbers-of : (kind : Kind) (t : Checkpoint) → t .kind ≡ kindNumber kind → Frame (ruleOf t) (t .width) (t .height)
+    → numbersFit (shapeOf kind (t .width) (t .height)) (numbersIn t) ≡ true → checkpointFits kind t ≡ true
 unfolding checkpointFits
-numbers-of t z e = and-true (frame-fits z) e
+numbers-of kind t k z e = and-true (eq-eqb (t .kind) (kindNumber kind) k) (and-true (frame-fits z) e)
 
-pub numbers-at : (t : Checkpoint) → checkpointFits t ≡ true → NumbersFit t
+pub numbers-at : (kind : Kind) (t : Checkpoint) → checkpointFits kind t ≡ true → NumbersFit kind t
 unfolding checkpointFits
-numbers-at t e =
+numbers-at kind t all =
+    let k = eqb (t .kind) (kindNumber kind) in
     let a = among maxWidth (t .width) in
     let b = among maxHeight (t .height) in
     let q = ruleFits (ruleOf t) in
-    let n = numbersFit (shapeOf (t .width) (t .height)) (numbersIn t) in
+    let n = numbersFit (shapeOf kind (t .width) (t .height)) (numbersIn t) in
+    let e = and-right k (a && b && q && n) all in
     let p3 = and-left (a && b && q) n e in
     let p2 = and-left (a && b) q p3 in
     let wide = among-in maxWidth (t .width) (and-left a b p2) in
     let tall = among-in maxHeight (t .height) (and-right a b p2) in
     let f = and-right (a && b && q) n e in record {
+      of = eqb-true (t .kind) (kindNumber kind) (and-left k (a && b && q && n) all);
       frame = record {
         size = record { some-column = wide .0; narrow = wide .1; some-row = tall .0; low = tall .1 };
         allowed = fits-allowed (ruleOf t) (and-right (a && b) q p3);
       };
       fit = f;
-      are = Shapes.numbers-at (shapeOf (t .width) (t .height)) (numbersIn t) f;
+      are = Shapes.numbers-at (shapeOf kind (t .width) (t .height)) (numbersIn t) f;
     }
 
 -- ---- a job: its numbers fit, and its stage
-abbrev pub jobAt : Rule → ℕ → ℕ → ℕ → Stage → Job
-jobAt rule w h u s = record { rule = rule; width = w; height = h; units = u; stage = s }
+abbrev pub jobAt : Kind → Rule → ℕ → ℕ → ℕ → Stage → Job
+jobAt kind rule w h u s = record { kind = kind; rule = rule; width = w; height = h; units = u; stage = s }
 
-pub fits-numbers : (j : Job) → jobFits j ≡ true → checkpointFits (numbersOf j) ≡ true
+pub fits-numbers : (j : Job) → jobFits j ≡ true → checkpointFits (j .kind) (numbersOf j) ≡ true
 unfolding jobFits
-fits-numbers j e = and-left (checkpointFits (numbersOf j)) (stageFits (shapeOf (j .width) (j .height)) (j .units) (j .stage)) e
+fits-numbers j e = and-left (checkpointFits (j .kind) (numbersOf j)) (stageFits (shapeOf (j .kind) (j .width) (j .height)) (j .units) (j .stage)) e
 
-pub fits-stage : (j : Job) → jobFits j ≡ true → stageFits (shapeOf (j .width) (j .height)) (j .units) (j .stage) ≡ true
+pub fits-stage : (j : Job) → jobFits j ≡ true → stageFits (shapeOf (j .kind) (j .width) (j .height)) (j .units) (j .stage) ≡ true
 unfolding jobFits
-fits-stage j e = and-right (checkpointFits (numbersOf j)) (stageFits (shapeOf (j .width) (j .height)) (j .units) (j .stage)) e
+fits-stage j e = and-right (checkpointFits (j .kind) (numbersOf j)) (stageFits (shapeOf (j .kind) (j .width) (j .height)) (j .units) (j .stage)) e
 
 -- it has a size and a rule
 pub fits-frame : (j : Job) → jobFits j ≡ true → Frame (j .rule) (j .width) (j .height)
-fits-frame j e = numbers-at (numbersOf j) (fits-numbers j e) .frame
+fits-frame j e = numbers-at (j .kind) (numbersOf j) (fits-numbers j e) .frame
 
 -- an opened job fits
-pub start-fits : {rule : Rule} {w h : ℕ} → Frame rule w h → jobFits (start rule w h) ≡ true
+pub start-fits : (kind : Kind) {rule : Rule} {w h : ℕ} → Frame rule w h → jobFits (start kind rule w h) ≡ true
 unfolding jobFits
-start-fits {rule} {w} {h} z =
+start-fits kind {rule} {w} {h} z =
     let high = z .size .some-row in
     and-true
-    (numbers-of (numbersOf (start rule w h)) z (numbers-start (shapeOf w h) (shape-lawful w h high) (pow-pos w) (omega (arith, board-long w h, high))))
-    (fills-at w h 0 (table-pos w h high))
+    (numbers-of kind (numbersOf (start kind rule w h)) refl z
+    (numbers-start (shapeOf kind w h) (shape-lawful w h kind high) (pow-pos w) (omega (arith, shorter kind w h high))))
+    (fills-first kind w h high)
 
 -- ---- pausing and resuming
-stage-back : (rule : Rule) (w h u : ℕ) (s : Stage) → stageFits (shapeOf w h) u s ≡ true → stageOf (numbersOf (jobAt rule w h u s)) ≡ s
+stage-back : (kind : Kind) (rule : Rule) (w h u : ℕ) (s : Stage) → stageFits (shapeOf kind w h) u s ≡ true → stageOf kind (numbersOf (jobAt kind rule w h u s)) ≡ s
 unfolding stageOf
-stage-back rule w h u (Stage.Filling above last live) e = rw e
-stage-back rule w h u (Stage.Choosing above last live) e = rw (not-true (isFill (shapeOf w h .plan u)) e)
-stage-back rule w h u (Stage.Finished above last score) e = refl
-stage-back rule w h u Stage.Infeasible e = refl
+stage-back kind rule w h u (Stage.Filling above last live) e = rw e
+stage-back kind rule w h u (Stage.Choosing above last live) e = rw (not-true (isFill (shapeOf kind w h .plan u)) e)
+stage-back kind rule w h u (Stage.Finished above last score) e = refl
+stage-back kind rule w h u Stage.Infeasible e = refl
 
-pub job-back : (j : Job) → jobFits j ≡ true → jobOf (numbersOf j) ≡ j
-job-back j e = ap (jobAt (j .rule) (j .width) (j .height) (j .units)) (stage-back (j .rule) (j .width) (j .height) (j .units) (j .stage) (fits-stage j e))
+pub job-back : (j : Job) → jobFits j ≡ true → jobOf (j .kind) (numbersOf j) ≡ j
+job-back j e =
+    ap (jobAt (j .kind) (j .rule) (j .width) (j .height) (j .units))
+    (stage-back (j .kind) (j .rule) (j .width) (j .height) (j .units) (j .stage) (fits-stage j e))
 
 pub pausable : (j : Job) → jobFits j ≡ true → Pausable j
 unfolding pauseRule resumeRule
 pausable j e = record { taken = e; pauses = rw e; resumes = rw (fits-numbers j e); back = job-back j e }
 
--- the nine numbers of what is said
+-- a job's numbers are of its kind alone
+pub of-kind : (kind : Kind) (j : Job) → checkpointFits kind (numbersOf j) ≡ true → kind ≡ j .kind
+of-kind kind j e = number-tells kind (j .kind) (sym (numbers-at kind (numbersOf j) e .of))
+
+-- the ten numbers of what is said
 abbrev pub heard : List ℕ → Checkpoint
 heard l = record {
   width = getD l 0 0;
@@ -119,6 +132,7 @@ heard l = record {
   mark = getD l 6 0;
   births = getD l 7 0;
   survivals = getD l 8 0;
+  kind = getD l 9 0;
 }
 
 abbrev given : Answer → List ℕ
@@ -134,14 +148,17 @@ paused-numbers j t e =
 
 pub round-trip : RoundTrip
 unfolding RoundTrip resumeRule
-round-trip j p t r P e R = go r (R .says) (R .job)
+round-trip j p t kind r P e R = (λ (k : kind ≡ j .kind). same k r (R .says) (R .job), λ n. other n (checkpointFits kind t) refl)
   where
     q : (jobFits j ≡ true) × (t ≡ numbersOf j)
     q = paused-numbers j t (sym (P .says) ∙ ap pausedSays e)
 
-    fits : checkpointFits t ≡ true
-    fits = rw (q .1) (fits-numbers j (q .0))
+    same : kind ≡ j .kind → (r : JobResult) → jobResultSays r ≡ resumeRule kind t → ((i : Job) → r ≡ JobResult.Ready i → i ≡ jobOf kind t) → r ≡ JobResult.Ready j
+    same k (JobResult.Ready i) s f = ap JobResult.Ready (f i refl ∙ ap₂ jobOf k (q .1) ∙ job-back j (q .0))
+    same k (JobResult.Refused x) s f =
+        let fits : checkpointFits kind t ≡ true = rw (k, q .1) (fits-numbers j (q .0)) in
+        absurd (refuses-none (rw fits at s))
 
-    go : (r : JobResult) → jobResultSays r ≡ resumeRule t → ((i : Job) → r ≡ JobResult.Ready i → i ≡ jobOf t) → r ≡ JobResult.Ready j
-    go (JobResult.Ready i) s f = ap JobResult.Ready (f i refl ∙ ap jobOf (q .1) ∙ job-back j (q .0))
-    go (JobResult.Refused x) s f = absurd (refuses-none (rw fits at s))
+    other : (kind ≡ j .kind → ⊥) → (b : Bool) → checkpointFits kind t ≡ b → jobResultSays r ≡ refuses 7 []
+    other n true f = absurd (n (of-kind kind j (rw (q .1) at f)))
+    other n false f = R .says ∙ rw f

@@ -6,18 +6,21 @@ use mathlib.Core.Option.{Option, none, some}
 use Prim.Native.Nat.{ℕ, zero, suc, _+_, _*_, _^_, _≤_, _<_}
 use native.Mathlib.Nat.{mul-le-mul-left}
 use native.Mathlib.Omega.{arith}
-use borrow.Author.Tests.{lt-ltb, le-leb, ltb-true, leb-true, eqb-true}
+use borrow.Author.Tests.{lt-ltb, le-ltb, le-leb, ltb-true, leb-true, eqb-true}
 use lib.Dec.{eqb, leb, ltb}
 use Rattle.board.specs.Boards.{maxWidth, maxHeight}
-use Rattle.board.proofs.Powers.{table-le}
 use Rattle.board.proofs.Tests.{and-left, and-right}
 use Rattle.elimination.specs.Task.{Task, fill, row}
 use Rattle.elimination.specs.Shape.{Shape, afterEntry, afterRow, afterNone}
+use Rattle.elimination.specs.Rounds.{roundFill}
 use Rattle.elimination.proofs.Shape.{Units, runs, ends, fails}
-use Rattle.job.specs.Jobs.{boardLength, afterChoice, shapeOf, aboveOf, lastOf, liveOf, markOf, numbersOf, numbersIn, jobFits, taskDue, jobWith, afterTask, afterUnit}
+use Rattle.job.specs.Jobs.{boardLength, afterChoice, shapeOf, layerStart, aboveOf, lastOf, liveOf, markOf, numbersOf, numbersIn, jobFits, runsWithin, taskDue, jobWith, afterTask, afterUnit}
+use Rattle.job.specs.Inner.{RoundIs}
+use Rattle.job.specs.declared.Kind.{Kind}
+use Rattle.job.specs.declared.shape.Round.{Round}
 use Rattle.job.specs.declared.Job.{Job}
 use Rattle.job.specs.declared.Chosen.{Chosen}
-use Rattle.job.proofs.Shapes.{board-long}
+use Rattle.job.proofs.Shapes.{length-le, row-early, fills-entry, chooses-row, rows-spent}
 use Rattle.job.proofs.Fits.{numbers-at, fits-numbers, fits-frame}
 use Rattle.job.proofs.Checkpoints.{chosen-le}
 
@@ -25,9 +28,9 @@ none-some : {A : Type 0} {x : A} → none ≡ some x → _≡_ {A = ℕ} 0 1
 none-some e = cc
 
 -- ---- sizes
--- the units of a grid's job are few enough for one more
-pub units-few : {w h u : ℕ} → w ≤ maxWidth → h ≤ maxHeight → u < boardLength w h → u < 2 ^ 32
-units-few {w} {h} {u} a b l = omega (arith, board-long w h, table-le a b)
+-- the units of a job are few enough for one more
+pub units-few : (kind : Kind) {w h u : ℕ} → w ≤ maxWidth → h ≤ maxHeight → u < boardLength kind w h → u < 2 ^ 32
+units-few kind {w} {h} {u} a b l = omega (arith, length-le kind a b)
 
 -- ---- the task that is due
 -- what a task that is due says of its job
@@ -35,35 +38,84 @@ pub record Due (j : Job) (o : Task) : Type 0 where
   pub narrow : j .width ≤ maxWidth
   pub low : j .height ≤ maxHeight
   pub running : markOf (j .stage) ≡ 0
-  pub until : j .units < boardLength (j .width) (j .height)
-  pub plans : shapeOf (j .width) (j .height) .plan (j .units) ≡ o
+  pub until : j .units < boardLength (j .kind) (j .width) (j .height)
+  pub plans : shapeOf (j .kind) (j .width) (j .height) .plan (j .units) ≡ o
 
 cond-some : {A : Type 0} (b : Bool) (x o : A) → cond b (some x) none ≡ some o → (b ≡ true) × (x ≡ o)
 cond-some true x o e = (refl, cc)
 cond-some false x o e = absurd (let z : _≡_ {A = ℕ} 0 1 = cc in omega arith)
 
-pub due-at : (j : Job) (o : Task) → taskDue j ≡ some o → Due j o
-unfolding taskDue
-due-at j o e =
-    let a = leb (j .width) maxWidth in
-    let b = leb (j .height) maxHeight in
-    let m = eqb (markOf (j .stage)) 0 in
-    let l = ltb (j .units) (boardLength (j .width) (j .height)) in
-    let p = cond-some (a && b && m && l) (shapeOf (j .width) (j .height) .plan (j .units)) o e in
-    let p3 = and-left (a && b && m) l (p .0) in
-    let p2 = and-left (a && b) m p3 in record {
-      narrow = leb-true (j .width) maxWidth (and-left a b p2);
-      low = leb-true (j .height) maxHeight (and-right a b p2);
-      running = eqb-true (markOf (j .stage)) 0 (and-right (a && b) m p3);
-      until = ltb-true (j .units) (boardLength (j .width) (j .height)) (and-right (a && b && m) l (p .0));
-      plans = p .1;
-    }
+module _ (j : Job) where
+  abbrev long : ℕ
+  long = boardLength (j .kind) (j .width) (j .height)
 
--- and a job of which this holds has a task
-pub due-by : (j : Job) → j .width ≤ maxWidth → j .height ≤ maxHeight → markOf (j .stage) ≡ 0 → j .units < boardLength (j .width) (j .height)
-    → taskDue j ≡ some (shapeOf (j .width) (j .height) .plan (j .units))
-unfolding taskDue
-due-by j a b m l = rw (le-leb (j .width) maxWidth a, le-leb (j .height) maxHeight b, m, lt-ltb (j .units) (boardLength (j .width) (j .height)) l)
+  abbrev next : Task
+  next = shapeOf (j .kind) (j .width) (j .height) .plan (j .units)
+
+  pub runs-within : runsWithin j ≡ true → (j .width ≤ maxWidth) × (j .height ≤ maxHeight) × (markOf (j .stage) ≡ 0)
+  runs-within e =
+      let a = leb (j .width) maxWidth in
+      let b = leb (j .height) maxHeight in
+      let m = eqb (markOf (j .stage)) 0 in
+      let p = and-left (a && b) m e in
+      (leb-true (j .width) maxWidth (and-left a b p), leb-true (j .height) maxHeight (and-right a b p), eqb-true (markOf (j .stage)) 0 (and-right (a && b) m e))
+
+  pub due-at : (o : Task) → taskDue j ≡ some o → Due j o
+  unfolding taskDue
+  due-at o e =
+      let p = cond-some (runsWithin j && ltb (j .units) long) next o e in
+      let w = runs-within (and-left (runsWithin j) (ltb (j .units) long) (p .0)) in record {
+        narrow = w .0;
+        low = w .1;
+        running = w .2;
+        until = ltb-true (j .units) long (and-right (runsWithin j) (ltb (j .units) long) (p .0));
+        plans = p .1;
+      }
+
+  -- a running job has a task while units are left
+  pub due-while : runsWithin j ≡ true → taskDue j ≡ cond (ltb (j .units) long) (some next) none
+  unfolding taskDue
+  due-while e = rw e
+
+  pub due-never : runsWithin j ≡ false → taskDue j ≡ none
+  unfolding taskDue
+  due-never e = rw e
+
+  pub due-by : j .width ≤ maxWidth → j .height ≤ maxHeight → markOf (j .stage) ≡ 0 → j .units < long → taskDue j ≡ some next
+  due-by a b m l =
+      let e : runsWithin j ≡ true = rw (le-leb (j .width) maxWidth a, le-leb (j .height) maxHeight b, m) in
+      due-while e ∙ rw (lt-ltb (j .units) long l)
+
+  -- ---- the job after its task
+  after-task : {o : Option Task} → taskDue j ≡ o → (chosen : Chosen) → afterUnit j chosen ≡ afterTask o j chosen
+  unfolding afterUnit
+  after-task e chosen = ap (λ (o : Option Task). afterTask o j chosen) e
+
+  pub after-never : runsWithin j ≡ false → (chosen : Chosen) → j ≡ afterUnit j chosen
+  after-never e chosen = sym (after-task (due-never e) chosen)
+
+  -- by its round
+  module _ (e : runsWithin j ≡ true) {x : Round} (R : RoundIs (j .kind) (j .width) (j .height) (j .units) x) (chosen : Chosen) where
+    pub after-fills : (x .left ≡ 0 → ⊥) → jobWith j (afterEntry (numbersIn (numbersOf j))) ≡ afterUnit j chosen
+    after-fills f =
+        let F = fills-entry R f in
+        let d : taskDue j ≡ some (roundFill (j .height) (4 ^ j .width) (layerStart (j .kind) (j .width)) (x .place)) = due-while e ∙ rw (lt-ltb (j .units) long (F .1), F .2) in
+        sym (after-task d chosen)
+
+    pub after-chooses : x .left ≡ 0 → x .rows < j .height → afterChoice (shapeOf (j .kind) (j .width) (j .height)) (x .rows) j chosen ≡ afterUnit j chosen
+    after-chooses f l =
+        let F = chooses-row R f l in
+        let d : taskDue j ≡ some (row (x .rows) (layerStart (j .kind) (j .width) (x .rows))) = due-while e ∙ rw (lt-ltb (j .units) long (F .0), F .1) in
+        sym (after-task d chosen)
+
+    pub after-spent : j .height ≤ x .rows → j ≡ afterUnit j chosen
+    after-spent l =
+        let d : taskDue j ≡ none = due-while e ∙ rw (le-ltb (j .units) long (rows-spent R l)) in
+        sym (after-task d chosen)
+
+  -- the rows of a round are at most the units done
+  pub rows-early : {x : Round} → RoundIs (j .kind) (j .width) (j .height) (j .units) x → x .left ≡ 0 → x .rows < j .height → x .rows ≤ j .units
+  rows-early R f l = let F = chooses-row R f l in row-early (j .kind) (j .width) (j .height) (F .0) (F .1)
 
 -- where no row can be chosen the job ends at row 1, and stands at a later row
 pub ends-first : (S : Shape) (r : ℕ) (j : Job) → r ≡ 0 → jobWith j (afterNone (numbersIn (numbersOf j))) ≡ afterChoice S r j Chosen.Nothing
@@ -80,25 +132,25 @@ module _ (j : Job) (f : jobFits j ≡ true) where
   fits-size = let z = fits-frame j f .size in (z .narrow, z .low)
 
   pub fits-rows : (aboveOf (j .stage) < 2 ^ j .width) × (lastOf (j .stage) < 2 ^ j .width)
-  fits-rows = let n = numbers-at (numbersOf j) (fits-numbers j f) .are in (n .over, n .below)
+  fits-rows = let n = numbers-at (j .kind) (numbersOf j) (fits-numbers j f) .are in (n .over, n .below)
 
   pub fits-live : liveOf (j .stage) ≤ j .width * j .height
   fits-live =
-      let n = numbers-at (numbersOf j) (fits-numbers j f) .are in
-      let k = chosen-le (j .width) (j .height) (j .units) (markOf (j .stage)) (n .units) in
+      let n = numbers-at (j .kind) (numbersOf j) (fits-numbers j f) .are in
+      let k = chosen-le (j .kind) (j .width) (j .height) (j .units) (markOf (j .stage)) (fits-frame j f .size .some-row) (n .units) in
       omega (arith, n .rows .few, mul-le-mul-left (j .width) k)
 
   -- while it runs, units are left
-  pub fits-until : markOf (j .stage) ≡ 0 → j .units < boardLength (j .width) (j .height)
-  fits-until m = go (markOf (j .stage)) (numbers-at (numbersOf j) (fits-numbers j f) .are .units) m
+  pub fits-until : markOf (j .stage) ≡ 0 → j .units < boardLength (j .kind) (j .width) (j .height)
+  fits-until m = go (markOf (j .stage)) (numbers-at (j .kind) (numbersOf j) (fits-numbers j f) .are .units) m
     where
-      go : (k : ℕ) → Units (shapeOf (j .width) (j .height)) (j .units) k → k ≡ 0 → j .units < boardLength (j .width) (j .height)
+      go : (k : ℕ) → Units (shapeOf (j .kind) (j .width) (j .height)) (j .units) k → k ≡ 0 → j .units < boardLength (j .kind) (j .width) (j .height)
       go k (runs l) z = l
       go k (ends q) z = absurd (omega arith)
       go k (fails q) z = absurd (omega arith)
 
   -- so the plan's task is due
-  pub due-running : markOf (j .stage) ≡ 0 → taskDue j ≡ some (shapeOf (j .width) (j .height) .plan (j .units))
+  pub due-running : markOf (j .stage) ≡ 0 → taskDue j ≡ some (shapeOf (j .kind) (j .width) (j .height) .plan (j .units))
   due-running m = due-by j (fits-size .0) (fits-size .1) m (fits-until m)
 
   -- and without a task it has ended
@@ -107,19 +159,18 @@ module _ (j : Job) (f : jobFits j ≡ true) where
 
   -- ---- the job after its unit
   module _ (m : markOf (j .stage) ≡ 0) where
-    after-due : {o : Task} → shapeOf (j .width) (j .height) .plan (j .units) ≡ o → (chosen : Chosen) → afterUnit j chosen ≡ afterTask (some o) j chosen
-    unfolding afterUnit
-    after-due p chosen = ap (λ (o : Option Task). afterTask o j chosen) (due-running m ∙ ap some p)
+    after-due : {o : Task} → shapeOf (j .kind) (j .width) (j .height) .plan (j .units) ≡ o → (chosen : Chosen) → afterUnit j chosen ≡ afterTask (some o) j chosen
+    after-due p chosen = after-task j (due-running m ∙ ap some p) chosen
 
-    pub after-entry : {k source target i : ℕ} → shapeOf (j .width) (j .height) .plan (j .units) ≡ fill k source target i → (chosen : Chosen)
+    pub after-entry : {k source target i : ℕ} → shapeOf (j .kind) (j .width) (j .height) .plan (j .units) ≡ fill k source target i → (chosen : Chosen)
         → afterUnit j chosen ≡ jobWith j (afterEntry (numbersIn (numbersOf j)))
     after-entry p chosen = after-due p chosen
 
-    pub after-row : {r source : ℕ} → shapeOf (j .width) (j .height) .plan (j .units) ≡ row r source → (c x : ℕ) → c < 2 ^ j .width → x ≤ j .width
+    pub after-row : {r source : ℕ} → shapeOf (j .kind) (j .width) (j .height) .plan (j .units) ≡ row r source → (c x : ℕ) → c < 2 ^ j .width → x ≤ j .width
         → afterUnit j (Chosen.Row c x) ≡ jobWith j (afterRow (j .height) r c (x + liveOf (j .stage)) (numbersIn (numbersOf j)))
     after-row p c x l b =
         after-due p (Chosen.Row c x) ∙ rw (lt-ltb c (2 ^ j .width) l, le-leb x (j .width) b, le-leb (liveOf (j .stage)) (j .width * j .height) fits-live)
 
-    pub after-none : {source : ℕ} → shapeOf (j .width) (j .height) .plan (j .units) ≡ row 0 source
+    pub after-none : {source : ℕ} → shapeOf (j .kind) (j .width) (j .height) .plan (j .units) ≡ row 0 source
         → afterUnit j Chosen.Nothing ≡ jobWith j (afterNone (numbersIn (numbersOf j)))
     after-none p = after-due p Chosen.Nothing

@@ -15,6 +15,7 @@ use Rattle.rule.proofs.Rules.{grid-allowed}
 use Rattle.edges.specs.Edges.{edgeCheck}
 use Rattle.edges.proofs.Theorems.{edge-checked}
 use Rattle.job.specs.Jobs.{start, jobSays, readCheck, openRule}
+use Rattle.job.specs.declared.Kind.{Kind}
 use Rattle.job.proofs.Fits.{Frame}
 
 module _ (rule : Rule) (w h : ℕ) (givens : List ℕ) where
@@ -28,11 +29,11 @@ module _ (rule : Rule) (w h : ℕ) (givens : List ℕ) where
   read-checked n p q e = checked-then n (givensCheck w h givens) (edgeCheck rule w h givens) (givens-checked n w h givens p q) e
 
   -- what opening takes has a size and a rule, and passes them
-  pub opening-shows : {values : List ℕ} → openRule rule w h givens ≡ gives values → Frame rule w h × (readCheck rule w h givens ≡ passed)
+  pub opening-shows : (kind : Kind) {values : List ℕ} → openRule kind rule w h givens ≡ gives values → Frame rule w h × (readCheck rule w h givens ≡ passed)
   unfolding openRule
-  opening-shows e =
-      let p = then-gives (gridCheck rule w h) (readCheck rule w h givens then gives (jobSays (start rule w h))) e in
-      let q = then-gives (readCheck rule w h givens) (gives (jobSays (start rule w h))) (p .1) in
+  opening-shows kind e =
+      let p = then-gives (gridCheck rule w h) (readCheck rule w h givens then gives (jobSays (start kind rule w h))) e in
+      let q = then-gives (readCheck rule w h givens) (gives (jobSays (start kind rule w h))) (p .1) in
       let r = grid-allowed rule w h (p .0 .1) in
       -- 0 is no refusal's number
       let c = read-checked 0 (λ z. omega arith) (λ z. omega arith) (edge-checked 0 rule w h givens (λ z. omega arith)) in

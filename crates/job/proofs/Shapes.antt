@@ -1,148 +1,245 @@
--- The shape of a grid's job: it is row elimination's for the plan that fills the whole table first, so it is lawful; and what its plan does, by the units.
+-- The shape of a job, by its kind: it is one of row elimination's, so it is lawful and goes in rounds. What a kind has to show of its plan is here, and
+-- nowhere else by cases.
 -- Assumes nothing.
-use mathlib.Core.Path.{_≡_, refl, sym, _∙_, ap, subst}
-use mathlib.Core.Bool.{Bool, true, false, not, true≢false}
-use Prim.Native.Nat.{ℕ, _+_, _*_, _-_, _/_, _%_, _^_, _≤_, _<_}
-use native.Mathlib.Nat.{mul-le-mul, div-lt-iff-lt-mul, mod-lt}
+use mathlib.Core.Path.{_≡_, refl, sym, _∙_, ap, ap₂, subst}
+use mathlib.Core.Bool.{Bool, true, false, not}
+use Prim.Native.Nat.{ℕ, zero, suc, _+_, _-_, _*_, _/_, _^_, _≤_, _<_}
+use native.Mathlib.Nat.{mul-le-mul, mul-le-mul-left, mul-le-mul-right}
 use native.Mathlib.Omega.{arith}
-use borrow.Author.Tests.{ltb-true, ltb-false, lt-ltb, le-ltb, le-leb, lt-leb}
-use lib.Dec.{ltb, leb}
+use borrow.Author.Tests.{ltb-true, ltb-false, eqb-true, eqb-false, lt-ltb, le-ltb, eq-eqb, ne-eqb}
+use lib.Dec.{eqb, ltb}
 use lib.Pow.{pow-pos}
-use Rattle.board.specs.Boards.{maxWidth}
+use Rattle.board.specs.Boards.{maxWidth, maxHeight}
 use Rattle.board.specs.Checks.{tableSize}
-use Rattle.board.proofs.Powers.{four-two, four-pos, four-le, table-one, table-four, block-room}
-use Rattle.elimination.specs.Task.{fill, row, isFill}
-use Rattle.elimination.specs.FillThenChoose.{plan}
-use Rattle.elimination.specs.Shape.{ShapeLaws, whole}
-use Rattle.elimination.proofs.FillThenChoose.{plan-fill, plan-row}
-use Rattle.elimination.proofs.Shape.{whole-lawful}
-use Rattle.job.specs.Jobs.{boardLength, noneLength, shapeOf}
+use Rattle.board.proofs.Powers.{four-two, four-pos, four-le}
+use Rattle.elimination.specs.Task.{row, isFill}
+use Rattle.elimination.specs.Places.{Orderly}
+use Rattle.elimination.specs.FillThenChoose as Whole
+use Rattle.elimination.specs.TwoLayers as Two
+use Rattle.elimination.specs.Shape.{Shape, ShapeLaws, entriesFilled, whole, twoLayers}
+use Rattle.elimination.specs.Rounds.{InRound, roundFill, Rounds}
+use Rattle.elimination.proofs.FillThenChoose as Wholes
+use Rattle.elimination.proofs.TwoLayers as Twos
+use Rattle.elimination.proofs.Shape.{units-split, whole-lawful, two-lawful}
+use Rattle.elimination.proofs.Rounds.{Does, fills, chooses, rests, does, until, fills-until, row-at, chosen-round, whole-rounds, two-rounds}
+use Rattle.job.specs.Jobs.{kindNumber, boardLength, noneLength, planOf, chosenIn, shapeOf, roundWork, layerStart, courseOf}
+use Rattle.job.specs.Calls.{RowsAreChoosingUnits}
+use Rattle.job.specs.Inner.{RoundIs}
+use Rattle.job.specs.declared.Kind.{Kind}
+use Rattle.job.specs.declared.shape.Round.{Round}
 
-pub shape-is : (w h : ℕ) → whole (2 ^ w) h w ≡ shapeOf w h
+-- ---- the kind's number tells the kind
+pub number-tells : (kind kind′ : Kind) → kindNumber kind ≡ kindNumber kind′ → kind ≡ kind′
+number-tells Kind.Ordinary Kind.Ordinary e = refl
+number-tells Kind.Ordinary Kind.TwoLayers e = absurd (omega arith)
+number-tells Kind.TwoLayers Kind.Ordinary e = absurd (omega arith)
+number-tells Kind.TwoLayers Kind.TwoLayers e = refl
+
+-- ---- the shapes
+whole-is : (w h : ℕ) → whole (2 ^ w) h w ≡ shapeOf Kind.Ordinary w h
 unfolding tableSize
-shape-is w h =
-    let b : h * (4 ^ w + 1) ≡ h * 4 ^ w + h = omega arith in
-    rw (b, four-two w)
-
-pub shape-lawful : (w h : ℕ) → 0 < h → ShapeLaws (shapeOf w h)
-shape-lawful w h high = subst ShapeLaws (shape-is w h) (whole-lawful (2 ^ w) h w high)
-
--- ---- lengths, by the table's size
-pub board-long : (w h : ℕ) → boardLength w h ≡ tableSize w h + h
-unfolding tableSize
-board-long w h = omega arith
-
-pub none-long : (w h : ℕ) → noneLength w h ≡ tableSize w h + 1
-unfolding tableSize
-none-long w h = refl
-
-pub table-pos : (w h : ℕ) → 0 < h → 0 < tableSize w h
-table-pos w h high =
-    let p : 0 < 2 ^ w = pow-pos w in
-    let q : 1 * 1 ≤ 2 ^ w * 2 ^ w = mul-le-mul p p in
-    let m : 1 * 1 ≤ h * (2 ^ w * 2 ^ w) = mul-le-mul high q in
-    omega (arith, table-four w h)
-
--- ---- a unit fills while the units are below the table's size
-pub fills-is : (w h u : ℕ) → isFill (shapeOf w h .plan u) ≡ ltb u (tableSize w h)
-unfolding plan
-fills-is w h u = rw (table-four w h) (go (ltb u (h * (2 ^ w * 2 ^ w))) refl)
+whole-is w h = ap₂ with-layer (sym (four-two w)) (let q : h * (2 ^ w * 2 ^ w) ≡ h * 4 ^ w = ap (λ (x : ℕ). h * x) (sym (four-two w)) in omega (arith, q))
   where
-    go : (b : Bool) → ltb u (h * (2 ^ w * 2 ^ w)) ≡ b → isFill (plan h (2 ^ w * 2 ^ w) u) ≡ ltb u (h * (2 ^ w * 2 ^ w))
-    go true e = rw e
-    go false e = rw e
-
-module _ (w h u : ℕ) where
-  pub fills-at : u < tableSize w h → isFill (shapeOf w h .plan u) ≡ true
-  fills-at l = fills-is w h u ∙ lt-ltb u (tableSize w h) l
-
-  pub chooses-at : tableSize w h ≤ u → isFill (shapeOf w h .plan u) ≡ false
-  chooses-at l = fills-is w h u ∙ le-ltb u (tableSize w h) l
-
-  pub chooses-is : leb (tableSize w h) u ≡ not (isFill (shapeOf w h .plan u))
-  chooses-is = go (ltb u (tableSize w h)) refl
-    where
-      go : (b : Bool) → ltb u (tableSize w h) ≡ b → leb (tableSize w h) u ≡ not (isFill (shapeOf w h .plan u))
-      go true e = let l = ltb-true u (tableSize w h) e in rw (fills-at l) (lt-leb (tableSize w h) u l)
-      go false e = let l = ltb-false u (tableSize w h) e in rw (chooses-at l) (le-leb (tableSize w h) u l)
-
--- ---- a unit's task, by its numbers, with q for 4^w
--- one that fills, and one that chooses
-pub task-fill : (w h u q : ℕ) → q ≡ tableSize w 1 → u < tableSize w h → fill (u / q) ((h - u / q) * q) ((h - 1 - u / q) * q) (u % q) ≡ shapeOf w h .plan u
-task-fill w h u q e l = rw (e ∙ layer-is w) (sym (plan-fill h (2 ^ w * 2 ^ w) u (rw (table-four w h) at l)))
-  where
-    layer-is : (w : ℕ) → tableSize w 1 ≡ 2 ^ w * 2 ^ w
-    layer-is w = table-four w 1 ∙ omega arith
-
-pub after-lt : (w h u q : ℕ) → q ≡ tableSize w 1 → u < tableSize w h → (0 < q) × (u / q < h)
-unfolding tableSize
-after-lt w h u q e l =
-    let f : q ≡ 4 ^ w = omega (arith, e) in
-    (rw f (four-pos w), rw f (div-lt-iff-lt-mul (four-pos w) .1 l))
-
-pub task-row : (w h u q : ℕ) → q ≡ tableSize w 1 → tableSize w h ≤ u → row (u - tableSize w h) ((u - tableSize w h) * q) ≡ shapeOf w h .plan u
-task-row w h u q e l =
-    let d : u ≡ h * (2 ^ w * 2 ^ w) + (u - tableSize w h) = omega (arith, table-four w h) in
-    let f : q ≡ 2 ^ w * 2 ^ w = e ∙ table-four w 1 ∙ omega arith in
-    rw f (sym (ap (shapeOf w h .plan) d ∙ plan-row h (2 ^ w * 2 ^ w) (u - tableSize w h)))
-
-pub layer-le : (w q : ℕ) → q ≡ tableSize w 1 → w ≤ maxWidth → q ≤ 1048576
-unfolding tableSize
-layer-le w q e l = omega (arith, four-le l)
-
--- ---- and back: what a task says of its unit and its layers
-pub record RowAt (w h u r source : ℕ) : Type 0 where
-  pub from : tableSize w h ≤ u
-  pub rows : r ≡ u - tableSize w h
-  pub layer : source ≡ r * 4 ^ w
-
-pub row-at : (w h u r source : ℕ) → shapeOf w h .plan u ≡ row r source → RowAt w h u r source
-row-at w h u r source p = go (ltb u (tableSize w h)) refl
-  where
-    go : (b : Bool) → ltb u (tableSize w h) ≡ b → RowAt w h u r source
-    go true e = absurd (true≢false (sym (fills-at w h u (ltb-true u (tableSize w h) e)) ∙ ap isFill p))
-    go false e =
-        let l : tableSize w h ≤ u = ltb-false u (tableSize w h) e in
-        let q : row (u - tableSize w h) ((u - tableSize w h) * tableSize w 1) ≡ row r source = task-row w h u (tableSize w 1) refl l ∙ p in
-        let a : u - tableSize w h ≡ r = cc in
-        let b : (u - tableSize w h) * tableSize w 1 ≡ source = cc in
-        record { from = l; rows = sym a; layer = sym b ∙ rw (a, table-one w) }
-
-pub record FillAt (w h k source target j : ℕ) : Type 0 where
-  pub after : k < h
-  pub inside : j < 4 ^ w
-  pub writes : target + 4 ^ w ≤ tableSize w h
-  pub reads : (k ≡ 0 → ⊥) → source + 4 ^ w ≤ tableSize w h
-
-fill-by : (w h u : ℕ) → u < tableSize w h → FillAt w h (u / 4 ^ w) ((h - u / 4 ^ w) * 4 ^ w) ((h - 1 - u / 4 ^ w) * 4 ^ w) (u % 4 ^ w)
-unfolding tableSize
-fill-by w h u l =
-    let k : u / 4 ^ w < h = div-lt-iff-lt-mul (four-pos w) .1 l in record {
-      after = k;
-      inside = mod-lt u (four-pos w);
-      writes = block-room (h - 1 - u / 4 ^ w) h (4 ^ w) (omega arith);
-      reads = λ z. block-room (h - u / 4 ^ w) h (4 ^ w) (omega (arith, z));
+    with-layer : ℕ → ℕ → Shape
+    with-layer q long = record {
+      codes = 2 ^ w;
+      entries = h * q;
+      rows = h;
+      plan = Whole.plan h (2 ^ w * 2 ^ w);
+      chosen = λ u. u - h * q;
+      boardLength = long;
+      noneLength = h * q + 1;
+      most = w;
     }
 
-pub fill-at : (w h u k source target j : ℕ) → shapeOf w h .plan u ≡ fill k source target j → FillAt w h k source target j
-fill-at w h u k source target j p = go (ltb u (tableSize w h)) refl
-  where
-    go : (b : Bool) → ltb u (tableSize w h) ≡ b → FillAt w h k source target j
-    go false e = absurd (true≢false (sym (ap isFill p) ∙ chooses-at w h u (ltb-false u (tableSize w h) e)))
-    go true e =
-        let l : u < tableSize w h = ltb-true u (tableSize w h) e in
-        let q : fill (u / 4 ^ w) ((h - u / 4 ^ w) * 4 ^ w) ((h - 1 - u / 4 ^ w) * 4 ^ w) (u % 4 ^ w) ≡ fill k source target j = task-fill w h u (4 ^ w) (sym (table-one w)) l ∙ p in
-        let a : u / 4 ^ w ≡ k = cc in
-        let b : (h - u / 4 ^ w) * 4 ^ w ≡ source = cc in
-        let c : (h - 1 - u / 4 ^ w) * 4 ^ w ≡ target = cc in
-        let d : u % 4 ^ w ≡ j = cc in
-        let F = fill-by w h u l in record {
-          after = rw a at (F .after);
-          inside = rw d at (F .inside);
-          writes = rw c at (F .writes);
-          reads = λ z. rw b at (F .reads (λ y. z (sym a ∙ y)));
-        }
-
-pub layer-in : (w h r : ℕ) → r < h → r * 4 ^ w + 4 ^ w ≤ tableSize w h
+two-is : (w h : ℕ) → twoLayers (2 ^ w) h w ≡ shapeOf Kind.TwoLayers w h
 unfolding tableSize
-layer-in w h r l = block-room r h (4 ^ w) l
+two-is w h = rw (four-two w, Twos.two-lengths h (2 ^ w * 2 ^ w) .board)
+
+module _ (w h : ℕ) where
+  pub shape-lawful : (kind : Kind) → 0 < h → ShapeLaws (shapeOf kind w h)
+  shape-lawful Kind.Ordinary high = subst ShapeLaws (whole-is w h) (whole-lawful (2 ^ w) h w high)
+  shape-lawful Kind.TwoLayers high = subst ShapeLaws (two-is w h) (two-lawful (2 ^ w) h w (pow-pos w) high)
+
+  pub shape-rounds : (kind : Kind) → Rounds (4 ^ w) (shapeOf kind w h) (courseOf kind w h)
+  shape-rounds Kind.Ordinary =
+      subst (λ (S : Shape). Rounds (4 ^ w) S (courseOf Kind.Ordinary w h)) (whole-is w h)
+      (subst (λ (q : ℕ). Rounds q (whole (2 ^ w) h w) (Whole.schedule h q)) (sym (four-two w)) (whole-rounds (2 ^ w) h w))
+  shape-rounds Kind.TwoLayers =
+      subst (λ (S : Shape). Rounds (4 ^ w) S (courseOf Kind.TwoLayers w h)) (two-is w h)
+      (subst (λ (q : ℕ). Rounds q (twoLayers (2 ^ w) h w) (Two.schedule h q)) (sym (four-two w)) (two-rounds (2 ^ w) h w (pow-pos w)))
+
+  some : 0 < 2 ^ w * 2 ^ w
+  some = mul-le-mul (pow-pos w) (pow-pos w)
+
+  abbrev InOrder : Shape → Type 0
+  InOrder S = Orderly (S .codes) (S .rows) (S .entries) (S .boardLength) (S .plan)
+
+  pub shape-orderly : (kind : Kind) → InOrder (shapeOf kind w h)
+  shape-orderly Kind.Ordinary = subst InOrder (whole-is w h) (Wholes.orderly (2 ^ w) h some)
+  shape-orderly Kind.TwoLayers = subst InOrder (two-is w h) (Twos.orderly (2 ^ w) h some)
+
+-- ---- the entries of a round
+pub work-first : (w h r : ℕ) → r ≡ 0 → h * 4 ^ w ≡ roundWork Kind.Ordinary w h r
+work-first w h zero e = refl
+work-first w h (suc r) e = absurd (omega arith)
+
+pub work-later : (w h r : ℕ) → (r ≡ 0 → ⊥) → 0 ≡ roundWork Kind.Ordinary w h r
+work-later w h zero n = absurd (n refl)
+work-later w h (suc r) n = refl
+
+-- ---- lengths
+rows-le : {h : ℕ} → h ≤ maxHeight → h * (h + 1) / 2 ≤ 1830
+rows-le {h} l = let n : h + 1 ≤ 61 = omega arith in let b : h * (h + 1) ≤ 60 * 61 = mul-le-mul l n in omega arith
+
+-- the longest is that of two layers at 10 by 60
+pub length-le : (kind : Kind) {w h : ℕ} → w ≤ maxWidth → h ≤ maxHeight → boardLength kind w h ≤ 1918894140
+length-le Kind.Ordinary {w} {h} a b =
+    let n : 4 ^ w + 1 ≤ 1048577 = omega (arith, four-le a) in
+    let m : h * (4 ^ w + 1) ≤ 60 * 1048577 = mul-le-mul b n in
+    omega arith
+length-le Kind.TwoLayers {w} {h} a b = let m : h * (h + 1) / 2 * 4 ^ w ≤ 1830 * 1048576 = mul-le-mul (rows-le b) (four-le a) in omega arith
+
+-- a job without a board is no longer than one with
+pub shorter : (kind : Kind) (w h : ℕ) → 0 < h → noneLength w h ≤ boardLength kind w h
+shorter Kind.Ordinary w h high = omega arith
+shorter Kind.TwoLayers w h high =
+    let l : 2 ≤ h + 1 = omega arith in
+    let b : h * 2 ≤ h * (h + 1) = mul-le-mul-left h l in
+    let n : h ≤ h * (h + 1) / 2 = omega arith in
+    let m : h * 4 ^ w ≤ h * (h + 1) / 2 * 4 ^ w = mul-le-mul-right (4 ^ w) n in
+    omega arith
+
+-- ---- the first unit fills
+pub fills-first : (kind : Kind) (w h : ℕ) → 0 < h → isFill (shapeOf kind w h .plan 0) ≡ true
+fills-first kind w h high =
+    let R = shape-rounds w h kind in
+    let m : 1 * 1 ≤ h * 4 ^ w = mul-le-mul high (four-pos w) in
+    let I : InRound h (courseOf kind w h) 0 0 0 = record { rows = omega arith; is = omega (arith, R .scheduled .first); within = λ l. omega arith } in
+    fills-until R I high ∙ lt-ltb 0 (courseOf kind w h .work 0) (omega (arith, R .none))
+
+-- ---- a job that ends with none has spent one choosing unit
+pub chosen-once : (kind : Kind) (w h : ℕ) → 0 < h → chosenIn kind w h (noneLength w h) ≡ 1
+chosen-once kind w h high =
+    let R = shape-rounds w h kind in
+    let I : InRound h (courseOf kind w h) (noneLength w h) 1 0 = record {
+      rows = high;
+      is = omega (arith, R .scheduled .first, R .scheduled .next 0, R .none);
+      within = λ l. omega arith;
+    } in
+    chosen-round R (shape-lawful w h kind high) I (shorter kind w h high)
+
+-- ---- the rows chosen
+pub rows-are-choosing-units : RowsAreChoosingUnits
+rows-are-choosing-units kind w h u high l = units-split (shapeOf kind w h) (shape-lawful w h kind high) u l
+
+-- an ordinary job has filled the whole table before it chooses
+pub entries-all : (w h u : ℕ) → 0 < h → noneLength w h ≤ u → u ≤ boardLength Kind.Ordinary w h → entriesFilled (planOf Kind.Ordinary w h) u ≡ tableSize w h
+unfolding tableSize
+entries-all w h u high some most = omega (arith, rows-are-choosing-units Kind.Ordinary w h u high most)
+
+-- ---- at least as many units are done as rows are chosen
+pub row-early : (kind : Kind) (w h : ℕ) {u r source : ℕ} → u < boardLength kind w h → shapeOf kind w h .plan u ≡ row r source → r ≤ u
+row-early kind w h {u} {r} {source} l p = go h refl
+  where
+    go : (k : ℕ) → h ≡ k → r ≤ u
+    go zero e = absurd (omega (arith, row-at (shape-rounds w h kind) l p .one))
+    go (suc k) e =
+        let high : 0 < h = omega arith in
+        omega (arith, rows-are-choosing-units kind w h u high (omega arith), shape-lawful w h kind high .chooses u r source l p .0)
+
+-- ---- what a unit's round says of it
+-- another entry is left where more than one is
+another : (m n work : ℕ) → m + n ≡ work → (n ≡ 0 → ⊥) → ltb (suc m) work ≡ not (eqb n 1)
+another m n work e some = go (eqb n 1) refl
+  where
+    go : (b : Bool) → eqb n 1 ≡ b → ltb (suc m) work ≡ not (eqb n 1)
+    go true q = le-ltb (suc m) work (omega (arith, eqb-true n 1 q)) ∙ sym (ap not q)
+    go false q = let f : n ≡ 1 → ⊥ = eqb-false n 1 q in lt-ltb (suc m) work (omega (arith, e, some, f)) ∙ sym (ap not q)
+
+module _ {kind : Kind} {w h u : ℕ} {x : Round} (R : RoundIs kind w h u x) where
+  abbrev S : Rounds (4 ^ w) (shapeOf kind w h) (courseOf kind w h)
+  S = shape-rounds w h kind
+
+  -- an entry is left to fill
+  pub fills-entry : (x .left ≡ 0 → ⊥) → (x .place < h * 4 ^ w) × (u < boardLength kind w h) × (shapeOf kind w h .plan u ≡ roundFill h (4 ^ w) (layerStart kind w) (x .place))
+  fills-entry n = go (does S (R .at))
+    where
+      go : Does S u (x .rows) (x .place) → (x .place < h * 4 ^ w) × (u < boardLength kind w h) × (shapeOf kind w h .plan u ≡ roundFill h (4 ^ w) (layerStart kind w) (x .place))
+      go (fills l b p) = (omega (arith, b, S .most (x .rows)), until S (R .at) l, p)
+      go (chooses l b p) = absurd (n (omega (arith, R .rest l)))
+      go (rests e p) = absurd (n (R .past (omega arith)))
+
+  -- no entry is left, and there is a row to choose
+  pub chooses-row : x .left ≡ 0 → x .rows < h → (u < boardLength kind w h) × (shapeOf kind w h .plan u ≡ row (x .rows) (layerStart kind w (x .rows)))
+  chooses-row z l = go (does S (R .at))
+    where
+      go : Does S u (x .rows) (x .place) → (u < boardLength kind w h) × (shapeOf kind w h .plan u ≡ row (x .rows) (layerStart kind w (x .rows)))
+      go (fills a b p) = absurd (omega (arith, R .rest l))
+      go (chooses a b p) = (until S (R .at) l, p)
+      go (rests e p) = absurd (omega arith)
+
+  -- the unit fills exactly where an entry is left
+  pub fills-left : isFill (shapeOf kind w h .plan u) ≡ not (eqb (x .left) 0)
+  fills-left = go (does S (R .at))
+    where
+      go : Does S u (x .rows) (x .place) → isFill (shapeOf kind w h .plan u) ≡ not (eqb (x .left) 0)
+      go (fills l b p) = ap isFill p ∙ sym (ap not (ne-eqb (x .left) 0 (λ z. omega (arith, R .rest l))))
+      go (chooses l b p) = ap isFill p ∙ sym (ap not (eq-eqb (x .left) 0 (omega (arith, R .rest l))))
+      go (rests e p) = S .past u (omega arith) ∙ sym (ap not (eq-eqb (x .left) 0 (R .past (omega arith))))
+
+  pub chooses-left : eqb (x .left) 0 ≡ not (isFill (shapeOf kind w h .plan u))
+  chooses-left = not-not (eqb (x .left) 0) ∙ ap not (sym fills-left)
+    where
+      not-not : (b : Bool) → b ≡ not (not b)
+      not-not true = refl
+      not-not false = refl
+
+  -- and the next one where another is
+  pub fills-next : (x .left ≡ 0 → ⊥) → isFill (shapeOf kind w h .plan (suc u)) ≡ not (eqb (x .left) 1)
+  fills-next n = go (does S (R .at))
+    where
+      go : Does S u (x .rows) (x .place) → isFill (shapeOf kind w h .plan (suc u)) ≡ not (eqb (x .left) 1)
+      go (fills l b p) =
+          let I : InRound h (courseOf kind w h) (suc u) (x .rows) (suc (x .place)) = record { rows = R .at .rows; is = omega (arith, R .at .is); within = λ z. b } in
+          fills-until S I l ∙ another (x .place) (x .left) (roundWork kind w h (x .rows)) (R .rest l) n
+      go (chooses l b p) = absurd (n (omega (arith, R .rest l)))
+      go (rests e p) = absurd (n (R .past (omega arith)))
+
+  -- no row is left: the units are the length, and as many more as its place says
+  pub rows-done : h ≤ x .rows → u ≡ boardLength kind w h + x .place
+  rows-done l = go (does S (R .at))
+    where
+      go : Does S u (x .rows) (x .place) → u ≡ boardLength kind w h + x .place
+      go (fills a b p) = absurd (omega arith)
+      go (chooses a b p) = absurd (omega arith)
+      go (rests e p) = p
+
+  pub rows-spent : h ≤ x .rows → boardLength kind w h ≤ u
+  rows-spent l = omega (arith, rows-done l)
+
+  -- a row is left: so are units
+  pub rows-left : x .rows < h → u < boardLength kind w h
+  rows-left l = until (shape-rounds w h kind) (R .at) l
+
+  -- so the tests of the units by the end mark are tests of the round
+  pub runs-same : ltb (x .rows) h ≡ ltb u (boardLength kind w h)
+  runs-same = go (ltb (x .rows) h) refl
+    where
+      go : (b : Bool) → ltb (x .rows) h ≡ b → ltb (x .rows) h ≡ ltb u (boardLength kind w h)
+      go true e = e ∙ sym (lt-ltb u (boardLength kind w h) (rows-left (ltb-true (x .rows) h e)))
+      go false e = e ∙ sym (le-ltb u (boardLength kind w h) (rows-spent (ltb-false (x .rows) h e)))
+
+  pub ends-not : x .rows < h → eqb u (boardLength kind w h) ≡ false
+  ends-not l = ne-eqb u (boardLength kind w h) (λ e. omega (arith, rows-left l))
+
+  pub ends-same : h ≤ x .rows → eqb (x .place) 0 ≡ eqb u (boardLength kind w h)
+  ends-same l = go (eqb (x .place) 0) refl
+    where
+      go : (b : Bool) → eqb (x .place) 0 ≡ b → eqb (x .place) 0 ≡ eqb u (boardLength kind w h)
+      go true e = e ∙ sym (eq-eqb u (boardLength kind w h) (omega (arith, rows-done l, eqb-true (x .place) 0 e)))
+      go false e = e ∙ sym (ne-eqb u (boardLength kind w h) (λ z. eqb-false (x .place) 0 e (omega (arith, rows-done l))))
+
+  -- the rows chosen are its round
+  pub rows-round : 0 < h → u ≤ boardLength kind w h → chosenIn kind w h u ≡ x .rows
+  rows-round high l = chosen-round (shape-rounds w h kind) (shape-lawful w h kind high) (R .at) l

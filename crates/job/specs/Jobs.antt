@@ -1,10 +1,10 @@
--- Document 01, "A job and its units", and Req 02: a job, its nine numbers, which of them fit, the rules of opening, pausing and resuming, and the
--- job after a unit. `Checkpoint` is the paper's seven numbers and the two of the rule, and the stage `Infeasible` its none.
+-- Document 01, "A job and its units", Req 02 and Req 05: a job, its ten numbers, which of them fit, the rules of opening, pausing and resuming, and the
+-- job after a unit. `Checkpoint` is the paper's seven numbers, the two of the rule and that of the kind, and the stage `Infeasible` its none.
 -- Assumes nothing.
 use mathlib.Core.Bool.{Bool, true, cond, not, _&&_}
 use mathlib.Core.List.{List, [], _∷_}
 use mathlib.Core.Option.{Option, none, some}
-use Prim.Native.Nat.{ℕ, zero, suc, _+_, _*_, _-_, _^_}
+use Prim.Native.Nat.{ℕ, zero, suc, _+_, _*_, _-_, _/_, _^_}
 use lib.Dec.{eqb, leb, ltb}
 use Rattle.board.specs.Answers.{Answer, gives, refusalSays, _then_, refuseUnless}
 use Rattle.board.specs.Boards.{among, maxWidth, maxHeight}
@@ -12,10 +12,13 @@ use Rattle.board.specs.Checks.{givensCheck, tableSize}
 use Rattle.edges.specs.Edges.{edgeCheck}
 use Rattle.elimination.specs.Task.{isFill}
 use Rattle.elimination.specs.Task as Elimination
-use Rattle.elimination.specs.FillThenChoose.{plan}
-use Rattle.elimination.specs.Shape.{Shape, Numbers, numbersFit, afterEntry, afterRow, afterNone}
+use Rattle.elimination.specs.Plan.{Schedule}
+use Rattle.elimination.specs.FillThenChoose as Whole
+use Rattle.elimination.specs.TwoLayers as Two
+use Rattle.elimination.specs.Shape.{Shape, Numbers, numbersFit, chosenFrom, afterEntry, afterRow, afterNone}
 use Rattle.rule.specs.Rule.{ruleFits, gridCheck}
 use Rattle.rule.specs.declared.Rule.{Rule}
+use Rattle.job.specs.declared.Kind.{Kind}
 use Rattle.job.specs.declared.Stage.{Stage}
 use Rattle.job.specs.declared.Job.{Job}
 use Rattle.job.specs.declared.Checkpoint.{Checkpoint}
@@ -24,29 +27,67 @@ use Rattle.job.specs.declared.Paused.{Paused}
 use Rattle.job.specs.declared.Chosen.{Chosen}
 use Rattle.job.specs.declared.Task as Task
 
--- ---- lengths
+-- ---- kinds of job
+-- the kind's number: ordinary 0, two layers only 1
+abbrev pub kindNumber : Kind → ℕ
+kindNumber Kind.Ordinary = 0
+kindNumber Kind.TwoLayers = 1
+
+-- the layers of 4^w entries that the table has to have room for
+abbrev pub layersOf : Kind → ℕ → ℕ
+layersOf Kind.Ordinary h = h
+layersOf Kind.TwoLayers h = 2
+
 -- a job's length where a still board that keeps the givens exists, and where none does
-abbrev pub boardLength : ℕ → ℕ → ℕ
-boardLength w h = h * (4 ^ w + 1)
+abbrev pub boardLength : Kind → ℕ → ℕ → ℕ
+boardLength Kind.Ordinary w h = h * (4 ^ w + 1)
+boardLength Kind.TwoLayers w h = h * (h + 1) / 2 * 4 ^ w + h
 
 abbrev pub noneLength : ℕ → ℕ → ℕ
 noneLength w h = h * 4 ^ w + 1
 
--- ---- the shape of a grid's job: all that its numbers and stages go by. The whole table is filled, then the rows are chosen, so that the rows chosen
--- are the units beyond h × 4^w; a row is a number below 2^w, and worth at most w
-abbrev pub shapeOf : ℕ → ℕ → Shape
-shapeOf w h = record {
+-- what each unit does: an ordinary job fills the whole table and then chooses the rows; a job of two layers fills the layers from h to k before it chooses
+-- row k, layer i in the half numbered i modulo 2
+abbrev pub planOf : Kind → ℕ → ℕ → ℕ → Elimination.Task
+planOf Kind.Ordinary w h = Whole.plan h (2 ^ w * 2 ^ w)
+planOf Kind.TwoLayers w h = Two.plan h (2 ^ w * 2 ^ w)
+
+-- the choosing units among the first u: in an ordinary job those beyond h × 4^w
+abbrev pub chosenIn : Kind → ℕ → ℕ → ℕ → ℕ
+chosenIn Kind.Ordinary w h u = u - tableSize w h
+chosenIn Kind.TwoLayers w h u = chosenFrom (2 ^ w * 2 ^ w) h u
+
+-- the shape of a job: all that its numbers and stages go by; a row is a number below 2^w, and worth at most w
+abbrev pub shapeOf : Kind → ℕ → ℕ → Shape
+shapeOf kind w h = record {
   codes = 2 ^ w;
-  entries = tableSize w h;
+  entries = tableSize w (layersOf kind h);
   rows = h;
-  plan = plan h (2 ^ w * 2 ^ w);
-  chosen = λ u. u - tableSize w h;
-  boardLength = boardLength w h;
+  plan = planOf kind w h;
+  chosen = chosenIn kind w h;
+  boardLength = boardLength kind w h;
   noneLength = noneLength w h;
   most = w;
 }
 
--- ---- the nine numbers of a job
+-- Its rounds, one for each row, counted from 0: the unit at which round r starts, the entries that are filled in it, and where the layer starts by which
+-- its row is chosen.
+abbrev pub roundStart : Kind → ℕ → ℕ → ℕ → ℕ
+roundStart Kind.Ordinary w h r = Whole.startOf h (4 ^ w) r
+roundStart Kind.TwoLayers w h r = Two.startOf h (4 ^ w) r
+
+abbrev pub roundWork : Kind → ℕ → ℕ → ℕ → ℕ
+roundWork Kind.Ordinary w h r = Whole.fillsBefore h (4 ^ w) r
+roundWork Kind.TwoLayers w h r = (h - r) * 4 ^ w
+
+abbrev pub layerStart : Kind → ℕ → ℕ → ℕ
+layerStart Kind.Ordinary w r = r * 4 ^ w
+layerStart Kind.TwoLayers w r = Two.half (4 ^ w) (r + 1)
+
+abbrev pub courseOf : Kind → ℕ → ℕ → Schedule
+courseOf kind w h = record { start = roundStart kind w h; work = roundWork kind w h; source = layerStart kind w }
+
+-- ---- the ten numbers of a job
 -- row above, last row, live cells so far and end mark of a stage
 abbrev pub aboveOf : Stage → ℕ
 aboveOf (Stage.Filling above last live) = above
@@ -83,11 +124,12 @@ numbersOf j = record {
   mark = markOf (j .stage);
   births = j .rule .births;
   survivals = j .rule .survivals;
+  kind = kindNumber (j .kind);
 }
 
--- in the paper's terms the nine numbers are themselves, and a job is its nine numbers
+-- in the paper's terms the ten numbers are themselves, and a job is its ten numbers
 abbrev pub checkpointSays : Checkpoint → List ℕ
-checkpointSays t = t .width ∷ t .height ∷ t .units ∷ t .above ∷ t .last ∷ t .live ∷ t .mark ∷ t .births ∷ t .survivals ∷ []
+checkpointSays t = t .width ∷ t .height ∷ t .units ∷ t .above ∷ t .last ∷ t .live ∷ t .mark ∷ t .births ∷ t .survivals ∷ t .kind ∷ []
 
 abbrev pub jobSays : Job → List ℕ
 jobSays j = checkpointSays (numbersOf j)
@@ -101,13 +143,14 @@ ruleOf t = record { births = t .births; survivals = t .survivals }
 abbrev pub numbersIn : Checkpoint → Numbers
 numbersIn t = record { units = t .units; above = t .above; last = t .last; live = t .live; mark = t .mark }
 
--- the numbers that resuming takes: width and height fit, the rule isn't barred, and the others fit the job's shape
-unfoldable pub checkpointFits : Checkpoint → Bool
-checkpointFits t =
-    among maxWidth (t .width) &&
+-- the numbers that resuming as a kind takes: they are of that kind, width and height fit, the rule isn't barred, and the others fit the job's shape
+unfoldable pub checkpointFits : Kind → Checkpoint → Bool
+checkpointFits kind t =
+    eqb (t .kind) (kindNumber kind) &&
+    (among maxWidth (t .width) &&
     among maxHeight (t .height) &&
     ruleFits (ruleOf t) &&
-    numbersFit (shapeOf (t .width) (t .height)) (numbersIn t)
+    numbersFit (shapeOf kind (t .width) (t .height)) (numbersIn t))
 
 -- a running job's stage is the task of its next unit: filling where that fills an entry, choosing where it chooses a row
 abbrev pub stageFits : Shape → ℕ → Stage → Bool
@@ -121,51 +164,55 @@ runningAt S units above last live = cond (isFill (S .plan units)) (Stage.Filling
 
 -- the jobs that pausing and working take
 unfoldable pub jobFits : Job → Bool
-jobFits j = checkpointFits (numbersOf j) && stageFits (shapeOf (j .width) (j .height)) (j .units) (j .stage)
+jobFits j = checkpointFits (j .kind) (numbersOf j) && stageFits (shapeOf (j .kind) (j .width) (j .height)) (j .units) (j .stage)
 
 -- ---- opening, pausing, resuming
 -- the job that opening hands out, at unit 0
-abbrev pub start : Rule → ℕ → ℕ → Job
-start rule w h = record { rule = rule; width = w; height = h; units = 0; stage = Stage.Filling 0 0 0 }
+abbrev pub start : Kind → Rule → ℕ → ℕ → Job
+start kind rule w h = record { kind = kind; rule = rule; width = w; height = h; units = 0; stage = Stage.Filling 0 0 0 }
 
--- the job that resuming hands out
-unfoldable pub stageOf : Checkpoint → Stage
-stageOf t =
+-- the job that resuming as a kind hands out
+unfoldable pub stageOf : Kind → Checkpoint → Stage
+stageOf kind t =
     cond (eqb (t .mark) 1) (Stage.Finished (t .above) (t .last) (t .live))
-    (cond (eqb (t .mark) 2) Stage.Infeasible (runningAt (shapeOf (t .width) (t .height)) (t .units) (t .above) (t .last) (t .live)))
+    (cond (eqb (t .mark) 2) Stage.Infeasible (runningAt (shapeOf kind (t .width) (t .height)) (t .units) (t .above) (t .last) (t .live)))
 
-abbrev pub jobOf : Checkpoint → Job
-jobOf t = record { rule = ruleOf t; width = t .width; height = t .height; units = t .units; stage = stageOf t }
+abbrev pub jobOf : Kind → Checkpoint → Job
+jobOf kind t = record { kind = kind; rule = ruleOf t; width = t .width; height = t .height; units = t .units; stage = stageOf kind t }
 
 -- the checks of what is lent to be read, as opening and working make them: 3, 4, 14
 unfoldable pub readCheck : Rule → ℕ → ℕ → List ℕ → Answer
 readCheck rule w h givens = givensCheck w h givens then edgeCheck rule w h givens
 
 -- opening: 1, 2, 13, then those
-unfoldable pub openRule : Rule → ℕ → ℕ → List ℕ → Answer
-openRule rule w h givens = gridCheck rule w h then readCheck rule w h givens then gives (jobSays (start rule w h))
+unfoldable pub openRule : Kind → Rule → ℕ → ℕ → List ℕ → Answer
+openRule kind rule w h givens = gridCheck rule w h then readCheck rule w h givens then gives (jobSays (start kind rule w h))
 
 -- pausing: 7
 unfoldable pub pauseRule : Job → Answer
 pauseRule j = refuseUnless (jobFits j) 7 then gives (jobSays j)
 
--- resuming: 7
-unfoldable pub resumeRule : Checkpoint → Answer
-resumeRule t = refuseUnless (checkpointFits t) 7 then gives (checkpointSays t)
+-- resuming as a kind: 7
+unfoldable pub resumeRule : Kind → Checkpoint → Answer
+resumeRule kind t = refuseUnless (checkpointFits kind t) 7 then gives (checkpointSays t)
 
 -- ---- a unit
+-- the job runs, and its width and height are within their limits
+abbrev pub runsWithin : Job → Bool
+runsWithin j = leb (j .width) maxWidth && leb (j .height) maxHeight && eqb (markOf (j .stage)) 0
+
 -- The task of the next unit: there is none where the job has ended, its units are spent, or its width or height is past its limit.
 unfoldable pub taskDue : Job → Option Elimination.Task
 taskDue j =
-    let S = shapeOf (j .width) (j .height) in
-    cond (leb (j .width) maxWidth && leb (j .height) maxHeight && eqb (markOf (j .stage)) 0 && ltb (j .units) (S .boardLength)) (some (S .plan (j .units))) none
+    let S = shapeOf (j .kind) (j .width) (j .height) in
+    cond (runsWithin j && ltb (j .units) (S .boardLength)) (some (S .plan (j .units))) none
 
 abbrev pub taskOf : Task.Task → Option Elimination.Task
 taskOf (Task.Task.Fill after source target entry) = some (Elimination.fill after source target entry)
 taskOf (Task.Task.Choose row source) = some (Elimination.row row source)
 taskOf Task.Task.Nothing = none
 
--- a job's nine numbers with these in place of those that its units change, and the job of them
+-- a job's ten numbers with these in place of those that its units change, and the job of them
 abbrev pub numbersWith : Job → Numbers → Checkpoint
 numbersWith j n = record {
   width = j .width;
@@ -177,10 +224,11 @@ numbersWith j n = record {
   mark = n .mark;
   births = j .rule .births;
   survivals = j .rule .survivals;
+  kind = kindNumber (j .kind);
 }
 
 abbrev pub jobWith : Job → Numbers → Job
-jobWith j n = jobOf (numbersWith j n)
+jobWith j n = jobOf (j .kind) (numbersWith j n)
 
 -- After the choice of the row with r rows above it. A row that is none of the shape's codes, or worth more than a row can be, leaves the job as it
 -- is, and so does a job whose live cells are more than its rows can have. Where no row can be chosen the job ends at row 1, and stands at a later row.
@@ -195,7 +243,7 @@ afterChoice S (suc r) j Chosen.Nothing = j
 abbrev pub afterTask : Option Elimination.Task → Job → Chosen → Job
 afterTask none j chosen = j
 afterTask (some (Elimination.fill k source target entry)) j chosen = jobWith j (afterEntry (numbersIn (numbersOf j)))
-afterTask (some (Elimination.row r source)) j chosen = afterChoice (shapeOf (j .width) (j .height)) r j chosen
+afterTask (some (Elimination.row r source)) j chosen = afterChoice (shapeOf (j .kind) (j .width) (j .height)) r j chosen
 
 unfoldable pub afterUnit : Job → Chosen → Job
 afterUnit j chosen = afterTask (taskDue j) j chosen

@@ -1,2 +1,3 @@
 pub mod Jobs
 pub mod Calls
+pub mod Inner

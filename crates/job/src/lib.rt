@@ -1,16 +1,25 @@
-// A job of the solver as numbers: opened, paused into nine numbers and resumed from them, and handed on from unit to unit. The work that a unit
+// A job of the solver as numbers: opened, paused into ten numbers and resumed from them, and handed on from unit to unit. The work that a unit
 // does on the table and the board is crate `solver`'s.
 use board::Check;
 use board::Refusal;
 use rule::Rule;
 
 mod numbers;
+mod shape;
 mod units;
 
 ghost use mathlib.Core.Path.{_≡_};
 ghost use Rattle.board.specs.Answers.{checkSays};
-ghost use Rattle.job.specs.Jobs.{readCheck, numbersOf, taskDue, taskOf, afterUnit};
+ghost use Rattle.job.specs.Jobs.{kindNumber, layersOf, readCheck, numbersOf, taskDue, taskOf, afterUnit};
 ghost use Rattle.job.specs.Calls.{Opens, Pauses, Resumes};
+
+// The kinds of job. Both come to the same board; they differ in the table that they take, and in their length.
+pub enum Kind {
+    // The whole table is filled, h layers, and then the rows are chosen.
+    Ordinary,
+    // The table holds two layers, which are filled again before each row.
+    TwoLayers,
+}
 
 // What a job does next, with that stage's numbers: the last two rows chosen, and the live cells so far that were free.
 pub enum Stage {
@@ -33,8 +42,9 @@ pub enum Stage {
     Infeasible,
 }
 
-// A job: its rule, its grid's width and height, the units done, and its stage.
+// A job: its kind, its rule, its grid's width and height, the units done, and its stage.
 pub struct Job {
+    pub kind: Kind,
     pub rule: Rule,
     pub width: usize,
     pub height: usize,
@@ -42,7 +52,7 @@ pub struct Job {
     pub stage: Stage,
 }
 
-// The nine numbers of a paused job: 0 running, 1 finished, 2 infeasible is its mark, and the last two are its rule.
+// The ten numbers of a paused job: 0 running, 1 finished, 2 infeasible is its mark, then its rule, and its kind's number.
 pub struct Checkpoint {
     pub width: usize,
     pub height: usize,
@@ -53,6 +63,7 @@ pub struct Checkpoint {
     pub mark: usize,
     pub births: usize,
     pub survivals: usize,
+    pub kind: usize,
 }
 
 // What opening and resuming hand out.
@@ -90,9 +101,9 @@ pub enum Chosen {
     Nothing,
 }
 
-// A job at unit 0 under a rule for a grid of givens: w × h marks, 0 free, 1 given dead, 2 given live. Refusals 1, 2, 13, 3, 4, 14.
-pub fn open(rule: Rule, width: usize, height: usize, givens: &[u8]) -> JobResult
-    ensures { λ r. ⌜ Opens rule width height (now (givens .entry)) r ⌝ }
+// A job of a kind at unit 0 under a rule for a grid of givens: w × h marks, 0 free, 1 given dead, 2 given live. Refusals 1, 2, 13, 3, 4, 14.
+pub fn open(kind: Kind, rule: Rule, width: usize, height: usize, givens: &[u8]) -> JobResult
+    ensures { λ r. ⌜ Opens kind rule width height (now (givens .entry)) r ⌝ }
 {
     if let Check::Refused(r) = rule::check(rule, width, height) {
         return JobResult::Refused(r);
@@ -101,6 +112,7 @@ pub fn open(rule: Rule, width: usize, height: usize, givens: &[u8]) -> JobResult
         return JobResult::Refused(r);
     }
     JobResult::Ready(Job {
+        kind,
         rule,
         width,
         height,
@@ -123,15 +135,37 @@ pub fn check_read(rule: Rule, width: usize, height: usize, givens: &[u8]) -> Che
     edges::check(rule, width, height, givens)
 }
 
-impl Checkpoint {
-    // The job of these numbers. Refusal 7.
-    pub fn resume(self) -> JobResult
-        ensures { λ r. ⌜ Resumes self r ⌝ }
+impl Kind {
+    // The kind's number, the tenth of a paused job.
+    pub fn number(self) -> usize
+        ensures { λ r. ⌜ r ≡ kindNumber self ⌝ }
     {
-        if !numbers::checkpoint_fits(self) {
+        match self {
+            Kind::Ordinary => 0,
+            Kind::TwoLayers => 1,
+        }
+    }
+
+    // The layers of 4^w entries that the table of a grid of h rows has to have room for.
+    pub fn layers(self, h: usize) -> usize
+        ensures { λ r. ⌜ r ≡ layersOf self h ⌝ }
+    {
+        match self {
+            Kind::Ordinary => h,
+            Kind::TwoLayers => 2,
+        }
+    }
+}
+
+impl Checkpoint {
+    // The job of these numbers, resumed as a kind. Refusal 7, also for numbers of another kind.
+    pub fn resume(self, kind: Kind) -> JobResult
+        ensures { λ r. ⌜ Resumes kind self r ⌝ }
+    {
+        if !numbers::checkpoint_fits(kind, self) {
             return JobResult::Refused(Refusal::Checkpoint);
         }
-        JobResult::Ready(numbers::job_of(self))
+        JobResult::Ready(numbers::job_of(kind, self))
     }
 }
 
@@ -146,7 +180,7 @@ impl Job {
         Paused::Numbers(numbers::numbers_of(self))
     }
 
-    // The nine numbers of this job, whether they fit or not.
+    // The ten numbers of this job, whether they fit or not.
     pub fn numbers(self) -> Checkpoint
         ensures { λ r. ⌜ r ≡ numbersOf self ⌝ }
     {
@@ -157,26 +191,12 @@ impl Job {
     pub fn task(self) -> Task
         ensures { λ r. ⌜ taskOf r ≡ taskDue self ⌝ }
     {
-        let w = self.width;
-        let h = self.height;
-        if board::MAX_WIDTH < w {
+        let job = self;
+        if !units::is_running(job) {
             return Task::Nothing;
         }
-        if board::MAX_HEIGHT < h {
-            return Task::Nothing;
-        }
-        if numbers::numbers_of(self).mark != 0 {
-            return Task::Nothing;
-        }
-        let units = self.units;
-        let entries = numbers::table_size(w, h);
-        if units < entries {
-            return units::fill_task(w, h, units);
-        }
-        if units < entries + h {
-            return units::row_task(w, h, units);
-        }
-        Task::Nothing
+        let kind = job.kind;
+        shape::task_at(kind, job.width, job.height, job.units)
     }
 
     // The job after its unit: by its task, and where that chooses a row by what is chosen. Without a task it stays as it is.
@@ -184,15 +204,17 @@ impl Job {
         ensures { λ r. ⌜ r ≡ afterUnit self chosen ⌝ }
     {
         let job = self;
-        match job.task() {
-            Task::Fill {
-                after: _,
-                source: _,
-                target: _,
-                entry: _,
-            } => units::after_entry(job),
-            Task::Choose { row, source: _ } => units::after_choice(job, row, chosen),
-            Task::Nothing => job,
+        if !units::is_running(job) {
+            return job;
         }
+        let kind = job.kind;
+        let x = shape::round_of(kind, job.width, job.height, job.units);
+        if x.left != 0 {
+            return units::after_entry(job, x.left != 1);
+        }
+        if x.rows < job.height {
+            return units::after_choice(job, x.rows, chosen);
+        }
+        job
     }
 }

@@ -1,48 +1,48 @@
 // The numbers of a job: which of them fit, and the stage that they give.
 use crate::Checkpoint;
 use crate::Job;
+use crate::Kind;
 use crate::Stage;
+use crate::shape;
+use crate::shape::Round;
 use board::Check;
 use rule::Rule;
 ghost use mathlib.Core.Path.{_≡_};
 ghost use Rattle.board.specs.Boards.{maxWidth, maxHeight};
-ghost use Prim.Native.Nat.{_≤_};
-ghost use Rattle.board.specs.Checks.{tableSize};
+ghost use mathlib.Core.Bool.{true, cond};
+ghost use Prim.Native.Nat.{_≤_, _<_};
 ghost use Rattle.elimination.specs.Shape.{unitsFit, rowsChosen, rowsFit};
 ghost use Rattle.job.specs.Jobs.{shapeOf, aboveOf, lastOf, liveOf, markOf, ruleOf, checkpointFits, stageFits, jobFits, numbersOf, stageOf, jobOf};
+ghost use Rattle.job.specs.Inner.{RoundIs};
+ghost use Rattle.job.specs.declared.Stage.{Stage};
 
-// The entries of the table, h × 4^w.
-pub fn table_size(w: usize, h: usize) -> usize
-    requires { ⌜ (w ≤ maxWidth) × (h ≤ maxHeight) ⌝ }
-    ensures { λ r. ⌜ (r ≡ tableSize w h) × (r ≤ 62914560) ⌝ }
+// Whether the units, which are in round x, fit the end mark.
+fn units_fit(kind: Kind, w: usize, h: usize, units: usize, x: Round, mark: usize) -> bool
+    requires { ⌜ (w ≤ maxWidth) × (h ≤ maxHeight) × RoundIs kind w h units x ⌝ }
+    ensures { λ r. ⌜ r ≡ unitsFit (shapeOf kind w h) units mark ⌝ }
 {
-    board::table_size(w, h)
-}
-
-// Whether the units fit the end mark.
-fn units_fit(w: usize, h: usize, units: usize, mark: usize) -> bool
-    requires { ⌜ (w ≤ maxWidth) × (h ≤ maxHeight) ⌝ }
-    ensures { λ r. ⌜ r ≡ unitsFit (shapeOf w h) units mark ⌝ }
-{
-    let entries = table_size(w, h);
     match mark {
-        0 => units < entries + h,
-        1 => units == entries + h,
-        2 => units == entries + 1,
+        0 => x.rows < h,
+        1 => {
+            if x.rows < h {
+                return false;
+            }
+            x.place == 0
+        }
+        2 => units == board::table_size(w, h) + 1,
         _ => false,
     }
 }
 
-// The rows chosen.
-fn rows_chosen(w: usize, h: usize, units: usize, mark: usize) -> usize
-    requires { ⌜ (w ≤ maxWidth) × (h ≤ maxHeight) ⌝ }
-    ensures { λ r. ⌜ r ≡ rowsChosen (shapeOf w h) units mark ⌝ }
+// The rows chosen, where the units, which are in round x, fit the end mark; with mark 2 no row counts as chosen.
+fn rows_chosen(kind: Kind, w: usize, h: usize, units: usize, x: Round, mark: usize) -> usize
+    requires { ⌜ (0 < h) × RoundIs kind w h units x × (unitsFit (shapeOf kind w h) units mark ≡ true) ⌝ }
+    ensures { λ r. ⌜ (r ≡ rowsChosen (shapeOf kind w h) units mark) × (r ≤ h) ⌝ }
 {
     if mark == 2 {
         return 0;
     }
-    let entries = table_size(w, h);
-    if units < entries { 0 } else { units - entries }
+    x.rows
 }
 
 // Whether the rows and the live cells fit k rows chosen.
@@ -71,10 +71,13 @@ fn rule_of(t: Checkpoint) -> Rule
     }
 }
 
-// Whether resuming takes the numbers.
-pub fn checkpoint_fits(t: Checkpoint) -> bool
-    ensures { λ r. ⌜ r ≡ checkpointFits t ⌝ }
+// Whether resuming as a kind takes the numbers.
+pub fn checkpoint_fits(kind: Kind, t: Checkpoint) -> bool
+    ensures { λ r. ⌜ r ≡ checkpointFits kind t ⌝ }
 {
+    if t.kind != kind.number() {
+        return false;
+    }
     let w = t.width;
     let h = t.height;
     if let Check::Refused(_) = rule::check(rule_of(t), w, h) {
@@ -86,30 +89,31 @@ pub fn checkpoint_fits(t: Checkpoint) -> bool
     if t.last >> w != 0 {
         return false;
     }
-    if !units_fit(w, h, t.units, t.mark) {
+    let x = shape::round_of(kind, w, h, t.units);
+    if !units_fit(kind, w, h, t.units, x, t.mark) {
         return false;
     }
-    let k = rows_chosen(w, h, t.units, t.mark);
+    let k = rows_chosen(kind, w, h, t.units, x, t.mark);
     rows_fit(w, k, t.above, t.last, t.live)
 }
 
-// Whether a running job's stage is the task of its next unit: it fills while its units are below h × 4^w, and chooses from there on.
-fn stage_fits(w: usize, h: usize, units: usize, stage: Stage) -> bool
+// Whether a running job's stage is the task of its next unit.
+fn stage_fits(kind: Kind, w: usize, h: usize, units: usize, stage: Stage) -> bool
     requires { ⌜ (w ≤ maxWidth) × (h ≤ maxHeight) ⌝ }
-    ensures { λ r. ⌜ r ≡ stageFits (shapeOf w h) units stage ⌝ }
+    ensures { λ r. ⌜ r ≡ stageFits (shapeOf kind w h) units stage ⌝ }
 {
-    let entries = table_size(w, h);
+    let x = shape::round_of(kind, w, h, units);
     match stage {
         Stage::Filling {
             above: _,
             last: _,
             live: _,
-        } => units < entries,
+        } => x.left != 0,
         Stage::Choosing {
             above: _,
             last: _,
             live: _,
-        } => entries <= units,
+        } => x.left == 0,
         Stage::Finished {
             above: _,
             last: _,
@@ -123,23 +127,24 @@ fn stage_fits(w: usize, h: usize, units: usize, stage: Stage) -> bool
 pub fn job_fits(job: Job) -> bool
     ensures { λ r. ⌜ r ≡ jobFits job ⌝ }
 {
-    if !checkpoint_fits(numbers_of(job)) {
+    let kind = job.kind;
+    if !checkpoint_fits(kind, numbers_of(job)) {
         return false;
     }
     let stage = job.stage;
-    stage_fits(job.width, job.height, job.units, stage)
+    stage_fits(kind, job.width, job.height, job.units, stage)
 }
 
 // The numbers that a stage carries.
-struct Kept {
-    above: usize,
-    last: usize,
-    live: usize,
-    mark: usize,
+pub struct Kept {
+    pub above: usize,
+    pub last: usize,
+    pub live: usize,
+    pub mark: usize,
 }
 
 // Row above, last row, live cells so far and end mark of a stage.
-fn kept_in(stage: Stage) -> Kept
+pub fn kept_in(stage: Stage) -> Kept
     ensures { λ r. ⌜ (r .above ≡ aboveOf stage) × (r .last ≡ lastOf stage) × (r .live ≡ liveOf stage) × (r .mark ≡ markOf stage) ⌝ }
 {
     match stage {
@@ -170,10 +175,11 @@ fn kept_in(stage: Stage) -> Kept
     }
 }
 
-// The nine numbers of a job.
+// The ten numbers of a job.
 pub fn numbers_of(job: Job) -> Checkpoint
     ensures { λ r. ⌜ r ≡ numbersOf job ⌝ }
 {
+    let kind = job.kind;
     let stage = job.stage;
     let c = kept_in(stage);
     Checkpoint {
@@ -186,13 +192,14 @@ pub fn numbers_of(job: Job) -> Checkpoint
         mark: c.mark,
         births: job.rule.births,
         survivals: job.rule.survivals,
+        kind: kind.number(),
     }
 }
 
-// The stage that numbers give.
-fn stage_of(t: Checkpoint) -> Stage
+// The stage that numbers of a kind give.
+fn stage_of(kind: Kind, t: Checkpoint) -> Stage
     requires { ⌜ (t .width ≤ maxWidth) × (t .height ≤ maxHeight) ⌝ }
-    ensures { λ r. ⌜ r ≡ stageOf t ⌝ }
+    ensures { λ r. ⌜ r ≡ stageOf kind t ⌝ }
 {
     let mark = t.mark;
     match mark {
@@ -203,31 +210,32 @@ fn stage_of(t: Checkpoint) -> Stage
         },
         2 => Stage::Infeasible,
         _ => {
-            if t.units < table_size(t.width, t.height) {
-                Stage::Filling {
-                    above: t.above,
-                    last: t.last,
-                    live: t.live,
-                }
-            } else {
-                Stage::Choosing {
-                    above: t.above,
-                    last: t.last,
-                    live: t.live,
-                }
-            }
+            let x = shape::round_of(kind, t.width, t.height, t.units);
+            running(x.left != 0, t.above, t.last, t.live)
         }
     }
 }
 
-// The job of nine numbers.
-pub fn job_of(t: Checkpoint) -> Job
+// The stage of a running job: filling, or else choosing.
+pub fn running(fills: bool, above: usize, last: usize, live: usize) -> Stage
+    ensures { λ r. ⌜ r ≡ cond fills (Stage.Filling above last live) (Stage.Choosing above last live) ⌝ }
+{
+    if fills {
+        Stage::Filling { above, last, live }
+    } else {
+        Stage::Choosing { above, last, live }
+    }
+}
+
+// The job of ten numbers, as a kind.
+pub fn job_of(kind: Kind, t: Checkpoint) -> Job
     requires { ⌜ (t .width ≤ maxWidth) × (t .height ≤ maxHeight) ⌝ }
-    ensures { λ r. ⌜ r ≡ jobOf t ⌝ }
+    ensures { λ r. ⌜ r ≡ jobOf kind t ⌝ }
 {
     let rule = rule_of(t);
-    let stage = stage_of(t);
+    let stage = stage_of(kind, t);
     Job {
+        kind,
         rule,
         width: t.width,
         height: t.height,

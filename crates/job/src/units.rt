@@ -1,63 +1,56 @@
-// What a unit is to do, and the job after it.
+// The job after a unit.
 use crate::Checkpoint;
 use crate::Chosen;
 use crate::Job;
-use crate::Task;
 use crate::numbers;
 ghost use mathlib.Core.Path.{_≡_};
 ghost use Rattle.board.specs.Boards.{maxWidth, maxHeight};
 ghost use mathlib.Core.Bool.{cond};
-ghost use mathlib.Core.Option.{some};
 ghost use lib.Dec.{ltb};
-ghost use Prim.Native.Nat.{suc, _+_, _^_, _≤_, _<_};
-ghost use Rattle.board.specs.Checks.{tableSize};
+ghost use Prim.Native.Nat.{suc, _^_, _≤_, _<_};
+ghost use Rattle.elimination.specs.Task.{isFill};
 ghost use Rattle.elimination.specs.Shape.{afterEntry, afterNone};
-ghost use Rattle.job.specs.Jobs.{boardLength, shapeOf, taskOf, numbersIn, numbersOf, jobWith, afterChoice};
+ghost use Rattle.job.specs.Jobs.{boardLength, runsWithin, shapeOf, numbersIn, numbersOf, jobWith, afterChoice};
 ghost use Rattle.job.specs.declared.Chosen.{Chosen};
 
-// The task of a unit that fills.
-pub fn fill_task(w: usize, h: usize, units: usize) -> Task
-    requires { ⌜ (w ≤ maxWidth) × (h ≤ maxHeight) × (units < tableSize w h) ⌝ }
-    ensures { λ r. ⌜ taskOf r ≡ some (shapeOf w h .plan units) ⌝ }
+// Whether the job runs, and its width and height are within their limits.
+pub fn is_running(job: Job) -> bool
+    ensures { λ r. ⌜ r ≡ runsWithin job ⌝ }
 {
-    let q = numbers::table_size(w, 1);
-    let after = units / q;
-    let source = (h - after) * q;
-    let target = (h - 1 - after) * q;
-    let entry = units % q;
-    Task::Fill {
-        after,
-        source,
-        target,
-        entry,
+    if board::MAX_WIDTH < job.width {
+        return false;
     }
+    if board::MAX_HEIGHT < job.height {
+        return false;
+    }
+    numbers::numbers_of(job).mark == 0
 }
 
-// The task of a unit that chooses.
-pub fn row_task(w: usize, h: usize, units: usize) -> Task
-    requires { ⌜ (w ≤ maxWidth) × (h ≤ maxHeight) × (tableSize w h ≤ units) × (units < tableSize w h + h) ⌝ }
-    ensures { λ r. ⌜ taskOf r ≡ some (shapeOf w h .plan units) ⌝ }
-{
-    let row = units - numbers::table_size(w, h);
-    let source = row * numbers::table_size(w, 1);
-    Task::Choose { row, source }
-}
-
-// After an entry.
-pub fn after_entry(job: Job) -> Job
-    requires { ⌜ (job .width ≤ maxWidth) × (job .height ≤ maxHeight) × (job .units < boardLength (job .width) (job .height)) ⌝ }
+// After an entry, where the next unit fills another one or not.
+pub fn after_entry(job: Job, more: bool) -> Job
+    requires { ⌜ (job .width ≤ maxWidth) × (job .height ≤ maxHeight) × (job .units < boardLength (job .kind) (job .width) (job .height)) ⌝ }
+    requires { ⌜ more ≡ isFill (shapeOf (job .kind) (job .width) (job .height) .plan (suc (job .units))) ⌝ }
     ensures { λ r. ⌜ r ≡ jobWith job (afterEntry (numbersIn (numbersOf job))) ⌝ }
 {
-    let mut t = numbers::numbers_of(job);
-    t.units = t.units + 1; // one entry
-    t.mark = 0;
-    numbers::job_of(t)
+    let kind = job.kind;
+    let rule = job.rule;
+    let before = job.stage;
+    let c = numbers::kept_in(before);
+    let stage = numbers::running(more, c.above, c.last, c.live);
+    Job {
+        kind,
+        rule,
+        width: job.width,
+        height: job.height,
+        units: job.units + 1, // one entry
+        stage,
+    }
 }
 
 // After the choice of the row with r rows above it.
 pub fn after_choice(job: Job, r: usize, chosen: Chosen) -> Job
-    requires { ⌜ (job .width ≤ maxWidth) × (job .height ≤ maxHeight) × (job .units < boardLength (job .width) (job .height)) × (r ≤ job .units) ⌝ }
-    ensures { λ x. ⌜ x ≡ afterChoice (shapeOf (job .width) (job .height)) r job chosen ⌝ }
+    requires { ⌜ (job .width ≤ maxWidth) × (job .height ≤ maxHeight) × (job .units < boardLength (job .kind) (job .width) (job .height)) × (r ≤ job .units) ⌝ }
+    ensures { λ x. ⌜ x ≡ afterChoice (shapeOf (job .kind) (job .width) (job .height)) r job chosen ⌝ }
 {
     match chosen {
         Chosen::Row { row, worth } => after_row(job, r, row, worth),
@@ -72,9 +65,10 @@ pub fn after_choice(job: Job, r: usize, chosen: Chosen) -> Job
 
 // After a row.
 fn after_row(job: Job, r: usize, row: usize, worth: usize) -> Job
-    requires { ⌜ (job .width ≤ maxWidth) × (job .height ≤ maxHeight) × (job .units < boardLength (job .width) (job .height)) × (r ≤ job .units) ⌝ }
-    ensures { λ x. ⌜ x ≡ afterChoice (shapeOf (job .width) (job .height)) r job (Chosen.Row row worth) ⌝ }
+    requires { ⌜ (job .width ≤ maxWidth) × (job .height ≤ maxHeight) × (job .units < boardLength (job .kind) (job .width) (job .height)) × (r ≤ job .units) ⌝ }
+    ensures { λ x. ⌜ x ≡ afterChoice (shapeOf (job .kind) (job .width) (job .height)) r job (Chosen.Row row worth) ⌝ }
 {
+    let kind = job.kind;
     let w = job.width;
     let h = job.height;
     let t = numbers::numbers_of(job);
@@ -87,17 +81,21 @@ fn after_row(job: Job, r: usize, row: usize, worth: usize) -> Job
     if w * h < t.live {
         return job;
     }
-    numbers::job_of(Checkpoint {
-        width: w,
-        height: h,
-        units: t.units + 1, // one row
-        above: t.last,
-        last: row,
-        live: worth + t.live,
-        mark: mark_after(h, r),
-        births: t.births,
-        survivals: t.survivals,
-    })
+    numbers::job_of(
+        kind,
+        Checkpoint {
+            width: w,
+            height: h,
+            units: t.units + 1, // one row
+            above: t.last,
+            last: row,
+            live: worth + t.live,
+            mark: mark_after(h, r),
+            births: t.births,
+            survivals: t.survivals,
+            kind: t.kind,
+        },
+    )
 }
 
 // The end mark after the row of h that has r rows above it.
@@ -110,11 +108,12 @@ fn mark_after(h: usize, r: usize) -> usize
 
 // Where no row can be chosen as row 1.
 fn after_none(job: Job) -> Job
-    requires { ⌜ (job .width ≤ maxWidth) × (job .height ≤ maxHeight) × (job .units < boardLength (job .width) (job .height)) ⌝ }
+    requires { ⌜ (job .width ≤ maxWidth) × (job .height ≤ maxHeight) × (job .units < boardLength (job .kind) (job .width) (job .height)) ⌝ }
     ensures { λ r. ⌜ r ≡ jobWith job (afterNone (numbersIn (numbersOf job))) ⌝ }
 {
+    let kind = job.kind;
     let mut t = numbers::numbers_of(job);
     t.units = t.units + 1; // spent, with nothing written
     t.mark = 2;
-    numbers::job_of(t)
+    numbers::job_of(kind, t)
 }

@@ -9,6 +9,7 @@ use Rattle.elimination.specs.Candidates.{scan}
 use Rattle.elimination.specs.Kind.{choose, entry}
 use Rattle.elimination.specs.Table.{reads, fillEntry}
 use Rattle.elimination.specs.FillThenChoose.{plan}
+use Rattle.elimination.specs.TwoLayers.{planFrom}
 use Rattle.rule.specs.Rule.{ruleCheck, gridCheck, nextUnder, conway}
 use Rattle.life.specs.Plane.{onPlane, around}
 use Rattle.life.specs.Rows.{cellOf, becomes, stepsTo}
@@ -18,17 +19,17 @@ use Rattle.plaintext.specs.Reading as Reading
 use Rattle.score_table.specs.Rows.{markKept, rowKept, cellWorth, rowWorth}
 use Rattle.board_rows.specs.Rows.{written}
 use Rattle.board_rows.specs.Calls.{rowWrites}
-use Rattle.elimination.specs.Shape.{unitsFit, rowsChosen, rowsFit, numbersFit}
+use Rattle.elimination.specs.Shape.{unitsFit, rowsChosen, rowsFit, numbersFit, chosenFrom}
 use Rattle.edges.specs.Edges.{givenLiveAt, edgeThree, edgeCheck}
-use Rattle.job.specs.Jobs.{checkpointFits, jobFits, stageOf, readCheck, openRule}
+use Rattle.job.specs.Jobs.{checkpointFits, jobFits, stageOf, readCheck, openRule, resumeRule}
 use Rattle.service.specs.Units.{unitBy}
 use Rattle.service.specs.Service.{workCheck, worksOn, workOf}
 use Rattle.solver.specs.Working.{lentCheck}
 use Rattle.solver.specs.Units.{unitOf}
-use Rattle.known.specs.Known.{solved, chosenBy, Known}
+use Rattle.known.specs.Known.{workedIn, chosenBy, Known}
 
 pub known : Known
-unfolding flatMap firstNot allBelow total sizeCheck cellsCheck givensCheck scan choose entry ruleCheck gridCheck nextUnder conway onPlane around cellOf becomes stepsTo nextAt keepsAt lifeCheck judged judgeRule linesOf Reading.judge Reading.judgeLines Reading.judged Reading.firstBad Reading.rowsOf Reading.widthOf Reading.filled Reading.cellsOf Reading.boardOver Reading.sizeRule Reading.readRule markKept rowKept cellWorth rowWorth written rowWrites tableSize unitsFit rowsChosen rowsFit numbersFit checkpointFits jobFits stageOf givenLiveAt edgeThree edgeCheck readCheck openRule workCheck lentCheck reads fillEntry plan unitBy unitOf worksOn workOf solved chosenBy
+unfolding flatMap firstNot allBelow total sizeCheck cellsCheck givensCheck scan choose entry ruleCheck gridCheck nextUnder conway onPlane around cellOf becomes stepsTo nextAt keepsAt lifeCheck judged judgeRule linesOf Reading.judge Reading.judgeLines Reading.judged Reading.firstBad Reading.rowsOf Reading.widthOf Reading.filled Reading.cellsOf Reading.boardOver Reading.sizeRule Reading.readRule markKept rowKept cellWorth rowWorth written rowWrites tableSize unitsFit rowsChosen rowsFit numbersFit chosenFrom checkpointFits jobFits stageOf givenLiveAt edgeThree edgeCheck readCheck openRule resumeRule workCheck lentCheck reads fillEntry plan planFrom unitBy unitOf worksOn workOf workedIn chosenBy
 known = record {
   m1 = refl;
   m2 = refl;
@@ -49,6 +50,18 @@ known = record {
   round-a-corner = refl;
   edge-worked = refl;
   free3 = refl;
+  two-m1 = refl;
+  two-m2 = refl;
+  two-m4 = refl;
+  two-m6 = refl;
+  one-layer = refl;
+  tenth = (refl, refl);
+  its-kind = refl;
+  of-no-kind = refl;
+  ordinary-as-two = refl;
+  filling-again = refl;
+  one-row-above = refl;
+  another-kind = refl;
   spoiled = refl;
   above-600 = refl;
   up-to-600 = refl;

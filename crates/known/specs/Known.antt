@@ -1,5 +1,5 @@
--- Document 01, "Known boards": M1 to M10, the free 3 by 3 grid, grids with live givens, edge threes, a spoiled table, rows written, and texts, stated
--- of the rules themselves.
+-- Document 01, "Known boards": M1 to M10, the free 3 by 3 grid, grids with live givens, edge threes, jobs of two layers, a spoiled table, rows written,
+-- and texts, stated of the rules themselves.
 -- Assumes nothing.
 use mathlib.Core.Path.{_≡_}
 use mathlib.Core.List.{List, [], _∷_}
@@ -13,7 +13,9 @@ use Rattle.plaintext.specs.Reading.{readRule, ReadsText}
 use Rattle.plaintext.specs.declared.Read.the-variants.{Board}
 use Rattle.board.specs.Checks.{tableSize}
 use Rattle.board_rows.specs.Calls.{rowWrites}
-use Rattle.job.specs.Jobs.{start, jobSays, openRule}
+use Rattle.job.specs.Jobs.{numbersOf, start, jobSays, openRule, resumeRule}
+use Rattle.job.specs.declared.Kind.{Kind}
+use Rattle.job.specs.declared.Checkpoint.{Checkpoint}
 use Rattle.job.specs.declared.Stage.{Stage}
 use Rattle.service.specs.Service.{Result, finished, infeasible, workOf}
 use Rattle.solver.specs.Units.{grid}
@@ -27,9 +29,16 @@ pub record CallEnd : Type 0 where
 abbrev pub callEnd : Result (List ℕ) → CallEnd
 callEnd r = record { answer = r .answer; units = r .state .job .units; board = r .state .board }
 
--- one working call with more allowance than the job has units, over a table of 7s and a board of 9s
-unfoldable pub solved : ℕ → ℕ → List ℕ → CallEnd
-solved w h givens = callEnd (workOf grid (start conwayRule w h) givens (replicate (tableSize w h) 7) (replicate (w * h) 9) 200)
+-- one working call with more allowance than the job has units, over a board of 9s and a table of so many 7s
+unfoldable pub workedIn : ℕ → Kind → ℕ → ℕ → List ℕ → CallEnd
+workedIn n kind w h givens = callEnd (workOf grid (start kind conwayRule w h) givens (replicate n 7) (replicate (w * h) 9) 200)
+
+-- of an ordinary job, and of one of two layers
+abbrev pub solved : ℕ → ℕ → List ℕ → CallEnd
+solved w h givens = workedIn (tableSize w h) Kind.Ordinary w h givens
+
+abbrev pub solvedInTwo : ℕ → ℕ → List ℕ → CallEnd
+solvedInTwo w h givens = workedIn (tableSize w 2) Kind.TwoLayers w h givens
 
 -- width 1, height 2, free, the table filled and no row chosen yet: one such call, where layer 1 is right, and layer 2 holds n for rows 0, 0 and none for others
 unfoldable pub chosenBy : ℕ → CallEnd
@@ -37,11 +46,16 @@ chosenBy n =
     callEnd
     (workOf
     grid
-    (record { rule = conwayRule; width = 1; height = 2; units = 8; stage = Stage.Choosing 0 0 0 })
+    (record { kind = Kind.Ordinary; rule = conwayRule; width = 1; height = 2; units = 8; stage = Stage.Choosing 0 0 0 })
     (0 ∷ 0 ∷ [])
     (0 ∷ 65535 ∷ 0 ∷ 65535 ∷ n ∷ 65535 ∷ 65535 ∷ 65535 ∷ [])
     (9 ∷ 9 ∷ [])
     200)
+
+-- numbers of a running Conway job of a grid two columns wide: height, units done, row above, last row, live cells, kind
+abbrev pub numbered : ℕ → ℕ → ℕ → ℕ → ℕ → ℕ → Checkpoint
+numbered h units above last live kind =
+    record { width = 2; height = h; units = units; above = above; last = last; live = live; mark = 0; births = 8; survivals = 12; kind = kind }
 
 -- the list
 pub record Known : Type 0 where
@@ -55,7 +69,7 @@ pub record Known : Type 0 where
   pub m4 : solved 2 2 (2 ∷ 1 ∷ 0 ∷ 0 ∷ []) ≡ record { answer = infeasible; units = 33; board = 9 ∷ 9 ∷ 9 ∷ 9 ∷ [] }
   -- width 3, height 1, first live: none
   pub m5 : solved 3 1 (2 ∷ 0 ∷ 0 ∷ []) ≡ record { answer = infeasible; units = 65; board = 9 ∷ 9 ∷ 9 ∷ [] }
-  pub m5-opens : openRule conwayRule 3 1 (2 ∷ 0 ∷ 0 ∷ []) ≡ gives (jobSays (start conwayRule 3 1))
+  pub m5-opens : openRule Kind.Ordinary conwayRule 3 1 (2 ∷ 0 ∷ 0 ∷ []) ≡ gives (jobSays (start Kind.Ordinary conwayRule 3 1))
   -- width 3, height 2 free: rows 3, 3, 130 units
   pub m6 : solved 3 2 (0 ∷ 0 ∷ 0 ∷ 0 ∷ 0 ∷ 0 ∷ []) ≡ record { answer = finished 4; units = 130; board = 0 ∷ 1 ∷ 1 ∷ 0 ∷ 1 ∷ 1 ∷ [] }
   -- the 3 by 3 board of rows 3, 5, 6 is still
@@ -71,13 +85,29 @@ pub record Known : Type 0 where
   pub all-given : solved 2 2 (2 ∷ 2 ∷ 2 ∷ 2 ∷ []) ≡ record { answer = finished 0; units = 34; board = 1 ∷ 1 ∷ 1 ∷ 1 ∷ [] }
   -- edge threes, with the middle cell's place. Width 3, height 1, all live: 14 at the second cell; the same under birth on 2 opens. 2 by 3, column 2
   -- live: 14 at the second row's cell; three live round a corner of 2 by 2 open. A working call turns them away too, and does no unit
-  pub edge-row : openRule conwayRule 3 1 (2 ∷ 2 ∷ 2 ∷ []) ≡ refuses 14 (1 ∷ [])
-  pub edge-births-on-2 : openRule (record { births = 4; survivals = 12 }) 3 1 (2 ∷ 2 ∷ 2 ∷ []) ≡ gives (jobSays (start (record { births = 4; survivals = 12 }) 3 1))
-  pub edge-column : openRule conwayRule 2 3 (0 ∷ 2 ∷ 0 ∷ 2 ∷ 0 ∷ 2 ∷ []) ≡ refuses 14 (3 ∷ [])
-  pub round-a-corner : openRule conwayRule 2 2 (2 ∷ 2 ∷ 2 ∷ 0 ∷ []) ≡ gives (jobSays (start conwayRule 2 2))
+  pub edge-row : openRule Kind.Ordinary conwayRule 3 1 (2 ∷ 2 ∷ 2 ∷ []) ≡ refuses 14 (1 ∷ [])
+  pub edge-births-on-2 : openRule Kind.Ordinary (record { births = 4; survivals = 12 }) 3 1 (2 ∷ 2 ∷ 2 ∷ []) ≡ gives (jobSays (start Kind.Ordinary (record { births = 4; survivals = 12 }) 3 1))
+  pub edge-column : openRule Kind.Ordinary conwayRule 2 3 (0 ∷ 2 ∷ 0 ∷ 2 ∷ 0 ∷ 2 ∷ []) ≡ refuses 14 (3 ∷ [])
+  pub round-a-corner : openRule Kind.Ordinary conwayRule 2 2 (2 ∷ 2 ∷ 2 ∷ 0 ∷ []) ≡ gives (jobSays (start Kind.Ordinary conwayRule 2 2))
   pub edge-worked : solved 3 1 (2 ∷ 2 ∷ 2 ∷ []) ≡ record { answer = refuses 14 (1 ∷ []); units = 0; board = 9 ∷ 9 ∷ 9 ∷ [] }
   -- 3 by 3 free: rows 3, 5, 6
   pub free3 : solved 3 3 (replicate 9 0) ≡ record { answer = finished 6; units = 195; board = 0 ∷ 1 ∷ 1 ∷ 1 ∷ 0 ∷ 1 ∷ 1 ∷ 1 ∷ 0 ∷ [] }
+  -- Two layers. The boards and scores of M1, M2, M4 and M6: 1 × 4 + 1, 3 × 16 + 2, 2 × 16 + 1 and 3 × 64 + 2 units. One layer is too short a table for 1 by 1
+  pub two-m1 : solvedInTwo 1 1 (0 ∷ []) ≡ record { answer = finished 0; units = 5; board = 0 ∷ [] }
+  pub two-m2 : solvedInTwo 2 2 (0 ∷ 0 ∷ 0 ∷ 0 ∷ []) ≡ record { answer = finished 4; units = 50; board = 1 ∷ 1 ∷ 1 ∷ 1 ∷ [] }
+  pub two-m4 : solvedInTwo 2 2 (2 ∷ 1 ∷ 0 ∷ 0 ∷ []) ≡ record { answer = infeasible; units = 33; board = 9 ∷ 9 ∷ 9 ∷ 9 ∷ [] }
+  pub two-m6 : solvedInTwo 3 2 (0 ∷ 0 ∷ 0 ∷ 0 ∷ 0 ∷ 0 ∷ []) ≡ record { answer = finished 4; units = 194; board = 0 ∷ 1 ∷ 1 ∷ 0 ∷ 1 ∷ 1 ∷ [] }
+  pub one-layer : workedIn 7 Kind.TwoLayers 1 1 (0 ∷ []) ≡ record { answer = refuses 6 []; units = 0; board = 9 ∷ [] }
+  -- a paused job's tenth number is its kind, and it is resumed as that kind only
+  pub tenth : (jobSays (start Kind.Ordinary conwayRule 2 3) ≡ 2 ∷ 3 ∷ 0 ∷ 0 ∷ 0 ∷ 0 ∷ 0 ∷ 8 ∷ 12 ∷ 0 ∷ [])
+      × (jobSays (start Kind.TwoLayers conwayRule 2 3) ≡ 2 ∷ 3 ∷ 0 ∷ 0 ∷ 0 ∷ 0 ∷ 0 ∷ 8 ∷ 12 ∷ 1 ∷ [])
+  pub its-kind : resumeRule Kind.TwoLayers (numbersOf (start Kind.TwoLayers conwayRule 2 3)) ≡ gives (jobSays (start Kind.TwoLayers conwayRule 2 3))
+  pub of-no-kind : resumeRule Kind.TwoLayers (numbered 2 2 0 0 0 2) ≡ refuses 7 []
+  pub ordinary-as-two : resumeRule Kind.TwoLayers (numbersOf (start Kind.Ordinary conwayRule 2 3)) ≡ refuses 7 []
+  -- 2 by 2 in two layers, 40 units done: one row is chosen, and layer 2 is filled again. Its numbers are taken with a last row, and not with a row above
+  pub filling-again : resumeRule Kind.TwoLayers (numbered 2 40 0 3 2 1) ≡ gives (2 ∷ 2 ∷ 40 ∷ 0 ∷ 3 ∷ 2 ∷ 0 ∷ 8 ∷ 12 ∷ 1 ∷ [])
+  pub one-row-above : resumeRule Kind.TwoLayers (numbered 2 40 3 3 2 1) ≡ refuses 7 []
+  pub another-kind : resumeRule Kind.Ordinary (numbersOf (start Kind.TwoLayers conwayRule 2 3)) ≡ refuses 7 []
   -- layer 2 is none throughout: 9, no row can be chosen after row 1; row 1 stays done and written, and the job stands before row 2
   pub spoiled : chosenBy 65535 ≡ record { answer = refuses 9 []; units = 9; board = 0 ∷ 9 ∷ [] }
   -- a number read from the table above 600 counts as none, and 600 doesn't

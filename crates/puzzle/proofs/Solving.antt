@@ -18,6 +18,7 @@ use Rattle.life.proofs.OnPlane.{state-small}
 use Rattle.score_table.specs.Rows.{cellWorth}
 use Rattle.score_table.proofs.Marks.{cell-worth-le}
 use Rattle.job.specs.Jobs.{readCheck}
+use Rattle.job.specs.declared.Kind.{Kind}
 use Rattle.service.specs.Service.{finished, infeasible}
 use Rattle.solver.specs.Grid.{score}
 use Rattle.runner.specs.Solving.{memoryCheck, solveCheck, solvedSays, Ends, best, none, SolvesTo, Solves}
@@ -29,13 +30,13 @@ use Rattle.puzzle.specs.Answering.{printed, SolvesGrid}
 unless-passed : (t : Bool) (n : ℕ) {values : List ℕ} → refuseUnless t n ≡ gives values → gives values ≡ passed
 unless-passed t n e = sym e ∙ rw (unless-gives t n e) refl
 
-check-passed : (w h : ℕ) (g t β : List ℕ) {values : List ℕ} → solveCheck conwayRule w h g t β ≡ gives values → solveCheck conwayRule w h g t β ≡ passed
+check-passed : (w h : ℕ) (g t β : List ℕ) {values : List ℕ} → solveCheck Kind.TwoLayers conwayRule w h g t β ≡ gives values → solveCheck Kind.TwoLayers conwayRule w h g t β ≡ passed
 unfolding solveCheck memoryCheck
 check-passed w h g t β e =
-    let a = then-gives (gridCheck conwayRule w h) (readCheck conwayRule w h g then memoryCheck w h t β) e in
-    let b = then-gives (readCheck conwayRule w h g) (memoryCheck w h t β) (a .1) in
-    let c = then-gives (lengthCheck 5 w h β) (tableCheck w h t) (b .1) in
-    e ∙ unless-passed (leb (tableSize w h) (length t)) 6 (c .1)
+    let a = then-gives (gridCheck conwayRule w h) (readCheck conwayRule w h g then memoryCheck Kind.TwoLayers w h t β) e in
+    let b = then-gives (readCheck conwayRule w h g) (memoryCheck Kind.TwoLayers w h t β) (a .1) in
+    let c = then-gives (lengthCheck 5 w h β) (tableCheck w 2 t) (b .1) in
+    e ∙ unless-passed (leb (tableSize w 2) (length t)) 6 (c .1)
 
 -- ---- a board's score is at most its number of cells
 score-le : {w h : ℕ} (g : List ℕ) {cells : List ℕ} → Board w h cells → score w h g cells ≤ w * h
@@ -53,19 +54,19 @@ record Scored (w h : ℕ) (board : List ℕ) (n : ℕ) : Type 0 where
   pub grid : Board w h board
   pub low : n ≤ w * h
 
-ends-scored : {w h : ℕ} {g β β′ : List ℕ} {n : ℕ} → Ends conwayRule w h g β (finished n) β′ → Scored w h β′ n
-ends-scored {w} {h} {g} {β′ = β′} {n = n} (best o e) = let q : n ≡ score w h g β′ = cc e in record { grid = o .solution .grid; low = rw q (score-le g (o .solution .grid)) }
-ends-scored (none n e k) = absurd (apart e)
+ends-scored : {w h : ℕ} {g t β t′ β′ : List ℕ} {n : ℕ} → Ends Kind.TwoLayers conwayRule w h g t β (finished n) t′ β′ → Scored w h β′ n
+ends-scored {w} {h} {g} {β′ = β′} {n = n} (best o e F) = let q : n ≡ score w h g β′ = cc e in record { grid = o .solution .grid; low = rw q (score-le g (o .solution .grid)) }
+ends-scored (none n e k F) = absurd (apart e)
 
-module _ {w h : ℕ} {g t β t′ β′ : List ℕ} {n : ℕ} (c : SolvesTo (solveCheck conwayRule w h g t β) conwayRule w h g t β (finished n) t′ β′) where
+module _ {w h : ℕ} {g t β t′ β′ : List ℕ} {n : ℕ} (c : SolvesTo (solveCheck Kind.TwoLayers conwayRule w h g t β) Kind.TwoLayers conwayRule w h g t β (finished n) t′ β′) where
   comes-scored : Scored w h β′ n
-  comes-scored = go (solveCheck conwayRule w h g t β) refl
+  comes-scored = go (solveCheck Kind.TwoLayers conwayRule w h g t β) refl
     where
-      go : (a : Answer) → solveCheck conwayRule w h g t β ≡ a → Scored w h β′ n
+      go : (a : Answer) → solveCheck Kind.TwoLayers conwayRule w h g t β ≡ a → Scored w h β′ n
       go (refuses k values) e = absurd (refuses-none (sym (c .turned k values e .0)))
       go (gives values) e = ends-scored (c .ended (check-passed w h g t β e))
 
-module _ {w h : ℕ} {g t β t′ β′ : List ℕ} {v : Solved.Solved} (S : Solves conwayRule w h g t β v t′ β′) where
+module _ {w h : ℕ} {g t β t′ β′ : List ℕ} {v : Solved.Solved} (S : Solves Kind.TwoLayers conwayRule w h g t β v t′ β′) where
   scored : {n : ℕ} → v ≡ Solved.Solved.Best n → Scored w h β′ n
   scored e = comes-scored (rw (ap solvedSays e) at (S .comes))
 

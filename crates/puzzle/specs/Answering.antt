@@ -10,7 +10,7 @@ use Rattle.rule.specs.Rule.{conwayRule}
 use Rattle.runner.specs.Solving.{Solves}
 use Rattle.runner.specs.declared.Solved.{Solved}
 use Rattle.runner.specs.declared.Solved.the-variants.{Best, Infeasible, Refused}
-use Rattle.puzzle.specs.Sizes.{programSizes}
+use Rattle.puzzle.specs.Sizes.{programKind, programSizes}
 use Rattle.puzzle.specs.Texts.{textCheck, textGivens}
 use Rattle.puzzle.specs.Printing.{bestText, noneLine, refusedLine, Prints}
 
@@ -20,10 +20,10 @@ printed w h (Best score) board = bestText score w h board
 printed w h Infeasible board = noneLine
 printed w h (Refused r) board = refusedLine (numberOf r)
 
--- "as .. opening and working": a grid is solved under Conway's rule, and what that answers is printed
+-- "as .. opening and working": a grid is solved under Conway's rule, by a job of the program's kind, and what that answers is printed
 pub record SolvesGrid (w h : ℕ) (givens table board output : List ℕ) (n : ℕ) (table′ board′ output′ : List ℕ) : Type 0 where
   pub answer : Solved
-  pub solves : Solves conwayRule w h givens table board answer table′ board′
+  pub solves : Solves programKind conwayRule w h givens table board answer table′ board′
   pub prints : Prints (printed w h answer board′) output n output′
 
 -- A text turned away has its number printed, and nothing else is written. Otherwise its givens stand in the first w × h places for givens, also

@@ -8,6 +8,7 @@ ghost use Rattle.puzzle.specs.Sizes.{outputRoom, programSizes};
 ghost use Rattle.puzzle.specs.Texts.{givenOf};
 ghost use Rattle.puzzle.specs.Answering.{SolvesGrid, AnswersText, AnswersAny};
 use board::Refusal;
+use job::Kind;
 use plaintext::Read;
 use runner::Solved;
 
@@ -89,7 +90,7 @@ fn answer_text(
     }
 }
 
-// Solves the grid that a board's cells give, under Conway's rule.
+// Solves the grid that a board's cells give, under Conway's rule, by a job of two layers: the table has room for two of up to seven columns.
 fn solve_cells(
     w: usize,
     h: usize,
@@ -102,7 +103,7 @@ fn solve_cells(
     ensures { λ n. ⌜ (now (cells .exit) ≡ map givenOf (now (cells .entry))) × SolvesGrid w h (map givenOf (now (cells .entry))) (now (table .entry)) (now (board .entry)) (now (output .entry)) n (now (table .exit)) (now (board .exit)) (now (output .exit)) ⌝ }
 {
     give_live(cells);
-    match runner::solve(rule::conway(), w, h, cells, table, board) {
+    match runner::solve(Kind::TwoLayers, rule::conway(), w, h, cells, table, board) {
         Solved::Best(score) => printing::put_best(w, h, board, score, output),
         Solved::Infeasible => printing::put(b"!none\n", output),
         Solved::Refused(r) => printing::put_refusal(r, output),

@@ -1,5 +1,5 @@
 // Puts texts through what the program prints, and prints each answer with what was written: every refusal that the program can print, none,
-// scores of one to three digits, the largest grids that its table has room for and one row more, the longest text and one byte more, and
+// scores of one to three digits, grids as wide as its table has room for and wider, the longest text and one byte more, and
 // memory of other sizes. The boards of large grids are judged apart.
 //
 // It can't print 3 or 5, since givens and board are lent as w × h cells; 4, since a cell that was read is given as 0 or 2; 7 or 9, since the job
@@ -14,8 +14,8 @@ fn main() {
     texts::infeasible();
     texts::scored();
     texts::longest();
-    texts::largest();
-    texts::one_row_more();
+    texts::large();
+    texts::too_large();
     answers::short_table();
     answers::long_output();
 }

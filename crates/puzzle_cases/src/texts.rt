@@ -40,30 +40,37 @@ pub fn longest() {
     answers::show(b"4,096 bytes", from(&text, 1));
 }
 
-pub fn largest() {
+// Grids whose whole tables would have more entries than the program's, and one of 60 rows.
+pub fn large() {
     check_rows(b"4 by 60", 4, 60, 300);
-    check_rows(b"5 by 32", 5, 32, 192);
-    check_rows(b"6 by 8", 6, 8, 56);
+    check_rows(b"5 by 33", 5, 33, 198);
+    check_rows(b"6 by 9", 6, 9, 63);
+    check_rows(b"7 by 1", 7, 1, 8);
     check_rows(b"7 by 2", 7, 2, 16);
+    check_rows(b"7 by 3", 7, 3, 24);
+    check_rows(b"7 by 7", 7, 7, 56);
+    check_rows(b"7 by 10", 7, 10, 80);
 }
 
-// 61 rows are refused before the table is.
-pub fn one_row_more() {
+// 61 rows are refused before the table is; 8 columns by the table, however few the rows are.
+pub fn too_large() {
     show_rows(b"4 by 61", 4, 305);
-    show_rows(b"5 by 33", 5, 198);
-    show_rows(b"6 by 9", 6, 63);
-    show_rows(b"7 by 3", 7, 24);
+    show_rows(b"7 by 61", 7, 488);
+    show_rows(b"8 by 2", 8, 18);
+    show_rows(b"8 by 60", 8, 540);
+    show_rows(b"10 by 1", 10, 11);
+    show_rows(b"10 by 60", 10, 660);
 }
 
 // Rows of w free cells, in so many bytes.
 fn check_rows(name: &[u8], w: usize, h: usize, bytes: usize) {
-    let mut text = [0u8; 400];
+    let mut text = [0u8; 660];
     fill(&mut text, w);
     answers::check(name, w, h, answers::first(&text, bytes));
 }
 
 fn show_rows(name: &[u8], w: usize, bytes: usize) {
-    let mut text = [0u8; 400];
+    let mut text = [0u8; 660];
     fill(&mut text, w);
     answers::show(name, answers::first(&text, bytes));
 }

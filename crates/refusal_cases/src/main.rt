@@ -1,8 +1,10 @@
 // Tries the refusals of opening, working, pausing and resuming: each once, and their order, for a call that breaks several rules answers the first.
-// Prints each answer, the job that a working call hands back, and how much it has written.
+// Prints each answer, the job that a working call hands back, and how much it has written. Ordinary jobs come first, then those of two layers.
 mod numbers;
 mod openings;
+mod rounds;
 mod spoiling;
+mod two_layers;
 mod workings;
 
 fn main() {
@@ -20,4 +22,25 @@ fn main() {
     numbers::resumptions();
     numbers::pauses();
     spoiling::calls();
+    openings::two_layers();
+    two_layers::order();
+    two_layers::memory();
+    two_layers::low();
+    two_layers::square();
+    two_layers::high();
+    two_layers::highest();
+    two_layers::passes();
+    two_layers::ended();
+    two_layers::stages();
+    two_layers::rows();
+    rounds::kinds();
+    rounds::lengths();
+    rounds::rows();
+    rounds::rows_ended();
+    rounds::fillings();
+    rounds::choices();
+    rounds::ends();
+    rounds::ordinary();
+    spoiling::two_layers();
+    spoiling::halves();
 }

@@ -1,7 +1,8 @@
-// Resumptions and pauses of a job of 2 by 2, whose table has 32 entries.
+// Resumptions and pauses of an ordinary job of 2 by 2, whose table has 32 entries.
 use job::Checkpoint;
 use job::Job;
 use job::JobResult;
+use job::Kind;
 use job::Paused;
 use job::Stage;
 
@@ -21,19 +22,11 @@ pub fn pauses() {
     pause(b"pause, unit 31 in filling", filling(2, 31));
 }
 
-// A job at a unit of a grid two high.
+// An ordinary job at a unit of a grid two high.
 pub fn filling(width: usize, units: usize) -> Job {
-    Job {
-        rule: rule::conway(),
-        width,
-        height: 2,
-        units,
-        stage: Stage::Filling {
-            above: 0,
-            last: 0,
-            live: 0,
-        },
-    }
+    let mut job = start(Kind::Ordinary, width, 2);
+    job.units = units;
+    job
 }
 
 // The same at unit 0 with other births.
@@ -41,6 +34,28 @@ pub fn ruled(width: usize, births: usize) -> Job {
     let mut job = filling(width, 0);
     job.rule.births = births;
     job
+}
+
+// A job of a kind at unit 0.
+pub fn start(kind: Kind, width: usize, height: usize) -> Job {
+    let stage = Stage::Filling {
+        above: 0,
+        last: 0,
+        live: 0,
+    };
+    job_at(kind, width, height, 0, stage)
+}
+
+// A job of a kind at a unit, in a stage, under Conway's rule.
+pub fn job_at(kind: Kind, width: usize, height: usize, units: usize, stage: Stage) -> Job {
+    Job {
+        kind,
+        rule: rule::conway(),
+        width,
+        height,
+        units,
+        stage,
+    }
 }
 
 fn resume(name: &[u8], births: usize, units: usize, last: usize, mark: usize) {
@@ -54,11 +69,25 @@ fn resume(name: &[u8], births: usize, units: usize, last: usize, mark: usize) {
         mark,
         births,
         survivals: 12,
+        kind: 0,
     };
     report::text(name);
-    match numbers.resume() {
-        JobResult::Ready(job) => report::line(b": a job at unit ", job.units),
+    print_result(numbers.resume(Kind::Ordinary));
+}
+
+// What an opening or a resumption came to.
+pub fn print_result(result: JobResult) {
+    match result {
+        JobResult::Ready(job) => print_ready(job),
         JobResult::Refused(r) => report::refusal(r),
+    }
+}
+
+fn print_ready(job: Job) {
+    let kind = job.kind;
+    match kind {
+        Kind::Ordinary => report::line(b": a job at unit ", job.units),
+        Kind::TwoLayers => report::line(b": a job of two layers at unit ", job.units),
     }
 }
 

@@ -1,5 +1,6 @@
 // Openings.
-use job::JobResult;
+use crate::numbers;
+use job::Kind;
 use rule::Rule;
 
 pub fn sizes() {
@@ -98,6 +99,64 @@ pub fn edge_threes_ruled() {
     );
 }
 
+// Openings of jobs of two layers, each of which breaks the rule that it names and those checked after it.
+pub fn two_layers() {
+    open_two(
+        b"open, two layers, width 11, and all below",
+        9,
+        11,
+        61,
+        &[2, 2, 2, 3],
+    );
+    open_two(
+        b"open, two layers, height 61, and all below",
+        9,
+        3,
+        61,
+        &[2, 2, 2, 3],
+    );
+    open_two(
+        b"open, two layers, births 9, and all below",
+        9,
+        3,
+        1,
+        &[2, 2, 2, 3],
+    );
+    open_two(
+        b"open, two layers, 4 givens of 6, and all below",
+        8,
+        3,
+        2,
+        &[2, 2, 2, 3],
+    );
+    open_two(
+        b"open, two layers, row 1 of 3 by 2 given live, a mark 3",
+        8,
+        3,
+        2,
+        &[2, 2, 2, 0, 3, 0],
+    );
+    open_two(
+        b"open, two layers, row 1 of 3 by 2 given live",
+        8,
+        3,
+        2,
+        &[2, 2, 2, 0, 0, 0],
+    );
+    open_two(b"open, two layers, 3 by 2", 8, 3, 2, &[0; 6]);
+    open_two(b"open, two layers, 1 by 1", 8, 1, 1, &[0]);
+    open_two(b"open, two layers, 10 by 60", 8, 10, 60, &[0; 600]);
+}
+
+fn open_two(name: &[u8], births: usize, w: usize, h: usize, givens: &[u8]) {
+    let rule = Rule {
+        births,
+        survivals: 12,
+    };
+    report::text(name);
+    numbers::print_result(job::open(Kind::TwoLayers, rule, w, h, givens));
+}
+
 fn open_marked(name: &[u8], w: usize, h: usize, givens: &[u8]) {
     open(name, rule::conway(), w, h, givens);
 }
@@ -128,8 +187,5 @@ fn open_ruled(name: &[u8], births: usize, survivals: usize) {
 
 fn open(name: &[u8], rule: Rule, w: usize, h: usize, givens: &[u8]) {
     report::text(name);
-    match job::open(rule, w, h, givens) {
-        JobResult::Ready(job) => report::line(b": a job at unit ", job.units),
-        JobResult::Refused(r) => report::refusal(r),
-    }
+    numbers::print_result(job::open(Kind::Ordinary, rule, w, h, givens));
 }

@@ -1,6 +1,7 @@
 // Working calls, most on a grid of 2 by 2, which needs 32 entries. The table's entries are 700 and the board's bytes 9 before each call.
 use crate::numbers;
 use job::Job;
+use job::Kind;
 use job::Stage;
 use solver::Status;
 use std::num;
@@ -103,7 +104,15 @@ fn lend(name: &[u8], table: &mut [u16], board: &mut [u8], allowance: u32) {
     );
 }
 
-fn work(name: &[u8], job: Job, givens: &[u8], table: &mut [u16], board: &mut [u8], allowance: u32) {
+// Makes a call, and prints how much it has written as well.
+pub fn work(
+    name: &[u8],
+    job: Job,
+    givens: &[u8],
+    table: &mut [u16],
+    board: &mut [u8],
+    allowance: u32,
+) {
     call(name, job, givens, table, board, allowance);
     report::line(b"  entries written: ", entries_unlike(table, 700));
     report::line(b"  cells written: ", cells_unlike(board, 9));
@@ -135,8 +144,19 @@ fn print_status(status: Status) {
     }
 }
 
-fn print_job(job: Job) {
-    report::text(b"  job: ");
+pub fn print_job(job: Job) {
+    report::text(b"  ");
+    print_fields(job);
+    report::text(b"\n");
+}
+
+// A job, without the end of the line.
+pub fn print_fields(job: Job) {
+    let kind = job.kind;
+    match kind {
+        Kind::Ordinary => report::text(b"job: "),
+        Kind::TwoLayers => report::text(b"job of two layers: "),
+    }
     report::number(job.width);
     report::text(b" by ");
     report::number(job.height);
@@ -152,11 +172,7 @@ fn print_job(job: Job) {
 
 fn print_stage(stage: Stage) {
     match stage {
-        Stage::Filling {
-            above: _,
-            last: _,
-            live: _,
-        } => report::text(b", filling\n"),
+        Stage::Filling { above, last, live } => print_filling(above, last, live),
         Stage::Choosing { above, last, live } => print_rows(
             b", choosing below ",
             above,
@@ -169,7 +185,16 @@ fn print_stage(stage: Stage) {
             last,
             score,
         ),
-        Stage::Infeasible => report::text(b", none\n"),
+        Stage::Infeasible => report::text(b", none"),
+    }
+}
+
+// Rows and live cells only where there are any, as in a job of two layers that fills again.
+fn print_filling(above: usize, last: usize, live: usize) {
+    if above == 0 && last == 0 && live == 0 {
+        report::text(b", filling");
+    } else {
+        print_rows(b", filling below ", above, last, live);
     }
 }
 
@@ -178,7 +203,8 @@ fn print_rows(name: &[u8], above: usize, last: usize, live: usize) {
     report::number(above);
     report::text(b" and ");
     report::number(last);
-    report::line(b", live ", live);
+    report::text(b", live ");
+    report::number(live);
 }
 
 // The entries of a table that are not so.

@@ -9,30 +9,32 @@ use lib.ListN.{length}
 use Rattle.board.specs.Answers.{passed}
 use Rattle.rule.specs.declared.Rule.{Rule}
 use Rattle.board.specs.Checks.{tableSize}
-use Rattle.job.specs.Jobs.{start, readCheck}
+use Rattle.job.specs.Jobs.{layersOf, start, readCheck}
 use Rattle.service.specs.Service.{next, spoiled, onStep, worksOn, workCheck}
 use Rattle.solver.specs.Working.{lentCheck}
 use Rattle.solver.specs.Units.{State, Step, unitOf, grid}
 use Rattle.solver.specs.Inner.{Lent}
+use Rattle.job.specs.declared.Kind.{Kind}
 use Rattle.job.specs.declared.Job.{Job}
 use Rattle.job.proofs.Fits.{Frame, start-fits}
 use Rattle.solver.proofs.UnitLaws.{unit-fits, unit-lent}
 use Rattle.runner.specs.Solving.{memoryCheck}
 
 -- ---- an opened job
-pub start-check : {rule : Rule} {w h : ℕ} → Frame rule w h → (g : List ℕ) → readCheck rule w h g ≡ passed → (t β : List ℕ)
-    → workCheck grid (start rule w h) g t β ≡ memoryCheck w h t β
+pub start-check : (kind : Kind) {rule : Rule} {w h : ℕ} → Frame rule w h → (g : List ℕ) → readCheck rule w h g ≡ passed → (t β : List ℕ)
+    → workCheck grid (start kind rule w h) g t β ≡ memoryCheck kind w h t β
 unfolding workCheck lentCheck memoryCheck
-start-check z g read t β = rw (start-fits z, read)
+start-check kind z g read t β = rw (start-fits kind z, read)
 
 -- ---- a call that passes
 pub check-passes : (j : Job) (g t β : List ℕ) → readCheck (j .rule) (j .width) (j .height) g ≡ passed → Lent j g t β → workCheck grid j g t β ≡ passed
 unfolding workCheck lentCheck
 check-passes j g t β read L =
-    rw (L .taken, read, eq-eqb (length β) (j .width * j .height) (L .cells), le-leb (tableSize (j .width) (j .height)) (length t) (L .entries))
+    rw (L .taken, read, eq-eqb (length β) (j .width * j .height) (L .cells), le-leb (tableSize (j .width) (layersOf (j .kind) (j .height))) (length t) (L .entries))
 
--- a state of the same rule and grid that passes again
+-- a state of the same kind, rule and grid that passes again
 pub record Kept (g : List ℕ) (s s′ : State) : Type 0 where
+  pub kind : s′ .job .kind ≡ s .job .kind
   pub ruled : s′ .job .rule ≡ s .job .rule
   pub width : s′ .job .width ≡ s .job .width
   pub height : s′ .job .height ≡ s .job .height
@@ -41,7 +43,7 @@ pub record Kept (g : List ℕ) (s s′ : State) : Type 0 where
 module _ (g : List ℕ) where
   pub works-kept : (n : ℕ) (s : State) → Lent (s .job) g (s .table) (s .board) → Kept g s (worksOn grid g n s .state)
   unfolding worksOn
-  works-kept zero s L = record { ruled = refl; width = refl; height = refl; lent = L }
+  works-kept zero s L = record { kind = refl; ruled = refl; width = refl; height = refl; lent = L }
   works-kept (suc n) s L = go (unitOf g s) refl (works-kept n)
     where
       go : (o : Step) → unitOf g s ≡ o → ((s′ : State) → Lent (s′ .job) g (s′ .table) (s′ .board) → Kept g s′ (worksOn grid g n s′ .state))
@@ -49,5 +51,5 @@ module _ (g : List ℕ) where
       go (next s′) e ih =
           let F = unit-fits g s s′ (L .taken) e in
           let K = ih s′ (unit-lent g s s′ L e) in
-          record { ruled = K .ruled ∙ F .rule; width = K .width ∙ F .width; height = K .height ∙ F .height; lent = K .lent }
-      go spoiled e ih = record { ruled = refl; width = refl; height = refl; lent = L }
+          record { kind = K .kind ∙ F .kind; ruled = K .ruled ∙ F .rule; width = K .width ∙ F .width; height = K .height ∙ F .height; lent = K .lent }
+      go spoiled e ih = record { kind = refl; ruled = refl; width = refl; height = refl; lent = L }

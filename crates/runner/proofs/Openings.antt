@@ -12,6 +12,7 @@ use Rattle.rule.proofs.Rules.{grid-passes}
 use Rattle.job.specs.Jobs.{start, jobSays, readCheck, openRule, jobResultSays}
 use Rattle.job.proofs.ReadChecks.{opening-shows}
 use Rattle.job.specs.Calls.{Opens}
+use Rattle.job.specs.declared.Kind.{Kind}
 use Rattle.job.specs.declared.Job.{Job}
 use Rattle.job.specs.declared.JobResult.{JobResult}
 use Rattle.runner.specs.Solving.{memoryCheck, solveCheck, Solves, Ready, Runs}
@@ -23,16 +24,15 @@ refused-then (gives xs) (gives ys) values e rest = absurd (refuses-none e)
 refused-then (gives xs) (refuses m ys) values e rest = sym e
 refused-then (refuses m xs) b values e rest = sym e
 
-module _ {rule : Rule} {w h : ℕ} {g : List ℕ} {o : JobResult} (O : Opens rule w h g o) where
-  pub refused-solves : {r : Refusal} → o ≡ JobResult.Refused r → (t β : List ℕ) → Solves rule w h g t β (Solved.Refused r) t β
+module _ {kind : Kind} {rule : Rule} {w h : ℕ} {g : List ℕ} {o : JobResult} (O : Opens kind rule w h g o) where
+  pub refused-solves : {r : Refusal} → o ≡ JobResult.Refused r → (t β : List ℕ) → Solves kind rule w h g t β (Solved.Refused r) t β
   unfolding openRule solveCheck
   refused-solves {r} e t β =
-      let c : solveCheck rule w h g t β ≡ refusalSays r =
-      refused-then (gridCheck rule w h) (readCheck rule w h g) (jobSays (start rule w h)) (sym (ap jobResultSays e) ∙ O .says) (memoryCheck w h t β) in record {
+      let c : solveCheck kind rule w h g t β ≡ refusalSays r =
+      refused-then (gridCheck rule w h) (readCheck rule w h g) (jobSays (start kind rule w h)) (sym (ap jobResultSays e) ∙ O .says) (memoryCheck kind w h t β) in record {
         comes = record {
           turned = λ n values q. (sym c ∙ q, refl, refl);
           ended = λ q. absurd (refuses-none (sym c ∙ q));
-          filled = λ q. absurd (refuses-none (sym c ∙ q));
         };
       }
 
@@ -42,8 +42,8 @@ module _ {rule : Rule} {w h : ℕ} {g : List ℕ} {o : JobResult} (O : Opens rul
         let q = O .job j e in
         rw q (rw (e, q) at O)
 
-    pub run-solves : {t β t′ β′ : List ℕ} {r : Solved} → Runs j g t β r t′ β′ → Solves rule w h g t β r t′ β′
+    pub run-solves : {t β t′ β′ : List ℕ} {r : Solved} → Runs j g t β r t′ β′ → Solves kind rule w h g t β r t′ β′
     unfolding solveCheck
     run-solves R =
-        let z = opening-shows rule w h g (sym (O .says) ∙ ap jobResultSays e) in
+        let z = opening-shows rule w h g kind (sym (O .says) ∙ ap jobResultSays e) in
         record { comes = rw (grid-passes rule (z .0 .size) (z .0 .allowed), z .1) (rw (O .job j e) at (R .comes)) }

@@ -11,7 +11,6 @@ use Rattle.board.specs.Answers.{Answer, gives, refuses, passed, Checked}
 use Rattle.board.proofs.Answers.{refuses-none}
 use Rattle.rule.specs.declared.Rule.{Rule}
 use Rattle.solver.specs.Grid.{score}
-use Rattle.board.specs.Checks.{tableSize}
 use Rattle.job.specs.Jobs.{boardLength, noneLength, start, readCheck}
 use Rattle.service.specs.Service.{workCheck, workOf, unfinished, finished, infeasible}
 use Rattle.solver.specs.Units.{State, grid}
@@ -19,24 +18,25 @@ use Rattle.solver.specs.Calls.{Result}
 use Rattle.solver.specs.Inner.{lentState}
 use Rattle.service.specs.Demand.{Call, work, afterWork, afterCall, run, Each, Fair, counted, allowed, summed, Answers, Served, Outcome, solved, unsolvable}
 use Rattle.service.specs.JobKinds.{aimOf}
-use Rattle.solver.specs.Demand.{FilledTo, gridKind, ThirdDemand}
+use Rattle.solver.specs.Demand.{TableAfter, gridKind, ThirdDemand}
 use Rattle.job.specs.Calls.{Opens}
+use Rattle.job.specs.declared.Kind.{Kind}
 use Rattle.job.specs.declared.Job.{Job}
 use Rattle.job.specs.declared.JobResult.{JobResult}
 use Rattle.solver.proofs.CheckLaws.{work-checked, lent-of}
-use Rattle.job.proofs.Shapes.{table-pos}
+use Rattle.job.proofs.Shapes.{shorter, entries-all}
 use Rattle.job.proofs.Fits.{Frame}
 use Rattle.job.proofs.ReadChecks.{opening-shows}
 use Rattle.solver.proofs.Third.{third-demand}
-use Rattle.runner.specs.Solving.{memoryCheck, solvedSays, Ends, best, none, SolvesTo, Ready, Runs}
+use Rattle.runner.specs.Solving.{memoryCheck, solvedSays, TableEnds, Ends, best, none, SolvesTo, Ready, Runs}
 use Rattle.runner.specs.declared.Solved.{Solved}
 use Rattle.runner.proofs.Appending.{run-append, summed-append, each-append, each-last}
 use Rattle.runner.proofs.Memory.{start-check, check-passes, Kept, works-kept}
 
 -- ---- a list of calls
 -- the opened job with its memory
-abbrev pub opened : Rule → ℕ → ℕ → List ℕ → List ℕ → State
-opened rule w h t β = lentState (start rule w h) t β
+abbrev pub opened : Kind → Rule → ℕ → ℕ → List ℕ → List ℕ → State
+opened kind rule w h t β = lentState (start kind rule w h) t β
 
 -- what the checks of a working call over a state say
 abbrev pub checkIn : List ℕ → State → Answer
@@ -44,17 +44,18 @@ checkIn g s = workCheck grid (s .job) g (s .table) (s .board)
 
 -- A list of calls that comes to a state in which the job is unfinished. The state passes the checks as the opened job does; memory that they
 -- turn away is as it was.
-pub record Going (rule : Rule) (w h : ℕ) (g t₀ β₀ : List ℕ) (s : State) : Type 0 where
+pub record Going (kind : Kind) (rule : Rule) (w h : ℕ) (g t₀ β₀ : List ℕ) (s : State) : Type 0 where
   pub calls : List (Call grid)
-  pub fair : Each grid (Fair grid g) calls (opened rule w h t₀ β₀)
-  pub comes : run grid calls (opened rule w h t₀ β₀) ≡ s
-  pub sum : summed grid calls (opened rule w h t₀ β₀) ≡ s .job .units
-  pub below : s .job .units < boardLength w h
+  pub fair : Each grid (Fair grid g) calls (opened kind rule w h t₀ β₀)
+  pub comes : run grid calls (opened kind rule w h t₀ β₀) ≡ s
+  pub sum : summed grid calls (opened kind rule w h t₀ β₀) ≡ s .job .units
+  pub below : s .job .units < boardLength kind w h
+  pub kept : s .job .kind ≡ kind
   pub ruled : s .job .rule ≡ rule
   pub width : s .job .width ≡ w
   pub height : s .job .height ≡ h
-  pub check : checkIn g s ≡ memoryCheck w h t₀ β₀
-  pub same : (n : ℕ) (values : List ℕ) → memoryCheck w h t₀ β₀ ≡ refuses n values → (s .table ≡ t₀) × (s .board ≡ β₀)
+  pub check : checkIn g s ≡ memoryCheck kind w h t₀ β₀
+  pub same : (n : ℕ) (values : List ℕ) → memoryCheck kind w h t₀ β₀ ≡ refuses n values → (s .table ≡ t₀) × (s .board ≡ β₀)
 
 -- ---- one call more
 -- the turn's call, and what it answers and leaves
@@ -65,21 +66,20 @@ abbrev pub turn : List ℕ → ℕ → State → Result
 turn g allowance s = workOf grid (s .job) g (s .table) (s .board) allowance
 
 -- what a turn comes to where the checks pass, by the job's length, its last answer and its last board
-record Turned (rule : Rule) (w h : ℕ) (g t₀ β₀ : List ℕ) (n : ℕ) (s : State) (r : Result) : Type 0 where
+record Turned (kind : Kind) (rule : Rule) (w h : ℕ) (g t₀ β₀ : List ℕ) (n : ℕ) (s : State) (r : Result) : Type 0 where
   long : ℕ
   final : Answer
   wanted : List ℕ
-  whole : tableSize w h ≤ long
-  most : long ≤ boardLength w h
+  most : long ≤ boardLength kind w h
   last : final ≡ unfinished → ⊥
-  ends : (says : Answer) (β : List ℕ) → says ≡ final → β ≡ wanted → Ends rule w h g β₀ says β
+  ends : (says : Answer) (t β : List ℕ) → says ≡ final → TableAfter kind rule w h g long t₀ t → β ≡ wanted → Ends kind rule w h g t₀ β₀ says t β
   units : r .state .job .units ≡ min long (s .job .units + n)
   under : r .state .job .units < long → r .answer ≡ unfinished
   from : long ≤ r .state .job .units → r .answer ≡ final
-  filled : FilledTo rule w h g (min (r .state .job .units) (tableSize w h)) t₀ (r .state .table)
+  filled : TableAfter kind rule w h g (r .state .job .units) t₀ (r .state .table)
   board : long ≤ s .job .units + n → r .state .board ≡ wanted
 
-module _ {rule : Rule} {w h : ℕ} {g t₀ β₀ : List ℕ} {n : ℕ} {s : State} {r : Result} (T : Turned rule w h g t₀ β₀ n s r) where
+module _ {kind : Kind} {rule : Rule} {w h : ℕ} {g t₀ β₀ : List ℕ} {n : ℕ} {s : State} {r : Result} (T : Turned kind rule w h g t₀ β₀ n s r) where
   -- "unfinished" is answered below the job's length, and only there
   runs-on : r .answer ≡ unfinished → r .state .job .units < T .long
   runs-on u = go (leb (T .long) (r .state .job .units)) refl
@@ -95,9 +95,15 @@ module _ {rule : Rule} {w h : ℕ} {g t₀ β₀ : List ℕ} {n : ℕ} {s : Stat
       go true e = leb-true (T .long) (r .state .job .units) e
       go false e = absurd (f (T .under (leb-false (T .long) (r .state .job .units) e)))
 
+-- the table in the end, from what the units of the job's length leave
+table-ends : (kind : Kind) (rule : Rule) (w h : ℕ) (g : List ℕ) → 0 < h → (long : ℕ) → noneLength w h ≤ long → long ≤ boardLength kind w h → (t₀ t : List ℕ)
+    → TableAfter kind rule w h g long t₀ t → TableEnds kind rule w h g long t₀ t
+table-ends Kind.Ordinary rule w h g high long some most t₀ t F = rw (entries-all w h long high some most) at F
+table-ends Kind.TwoLayers rule w h g high long some most t₀ t F = F
+
 -- what a turn that ends nothing leaves
-pub record Goes (rule : Rule) (w h : ℕ) (g t₀ β₀ : List ℕ) (s s′ : State) : Type 0 where
-  pub going : Going rule w h g t₀ β₀ s′
+pub record Goes (kind : Kind) (rule : Rule) (w h : ℕ) (g t₀ β₀ : List ℕ) (s s′ : State) : Type 0 where
+  pub going : Going kind rule w h g t₀ β₀ s′
   pub more : s .job .units < s′ .job .units
 
 -- the parts of a result
@@ -127,34 +133,35 @@ solved-ends (Solved.Best score) e = let z : _≡_ {A = ℕ} 0 1 = cc in omega ar
 solved-ends Solved.Infeasible e = let z : _≡_ {A = ℕ} 0 1 = cc in omega arith
 solved-ends (Solved.Refused r) e = refuses-none e
 
-module _ {rule : Rule} {w h : ℕ} {g : List ℕ} (O : Opens rule w h g (JobResult.Ready (start rule w h))) (t₀ β₀ : List ℕ) where
+module _ {kind : Kind} {rule : Rule} {w h : ℕ} {g : List ℕ} (O : Opens kind rule w h g (JobResult.Ready (start kind rule w h))) (t₀ β₀ : List ℕ) where
   opened-frame : Frame rule w h
-  opened-frame = opening-shows rule w h g (sym (O .says)) .0
+  opened-frame = opening-shows rule w h g kind (sym (O .says)) .0
 
   opened-read : readCheck rule w h g ≡ passed
-  opened-read = opening-shows rule w h g (sym (O .says)) .1
+  opened-read = opening-shows rule w h g kind (sym (O .says)) .1
 
   abbrev s₀ : State
-  s₀ = opened rule w h t₀ β₀
+  s₀ = opened kind rule w h t₀ β₀
 
   -- no call yet
-  begins : Going rule w h g t₀ β₀ s₀
-  unfolding run summed tableSize
+  begins : Going kind rule w h g t₀ β₀ s₀
+  unfolding run summed
   begins = record {
     calls = [];
     fair = tt;
     comes = refl;
     sum = refl;
-    below = omega (arith, table-pos w h (opened-frame .size .some-row));
+    below = omega (arith, shorter kind w h (opened-frame .size .some-row));
+    kept = refl;
     ruled = refl;
     width = refl;
     height = refl;
-    check = start-check opened-frame g opened-read t₀ β₀;
+    check = start-check kind opened-frame g opened-read t₀ β₀;
     same = λ n values e. (refl, refl);
   }
 
   -- the list with the turn's call at its end
-  module _ (n : ℕ) (s : State) (P : Going rule w h g t₀ β₀ s) where
+  module _ (n : ℕ) (s : State) (P : Going kind rule w h g t₀ β₀ s) where
     abbrev longer : List (Call grid)
     longer = P .calls ++ (lends g n s ∷ [])
 
@@ -172,15 +179,14 @@ module _ {rule : Rule} {w h : ℕ} {g : List ℕ} (O : Opens rule w h g (JobResu
           summed-append grid (lends g n s) (P .calls) s₀
           ∙ ap₂ (λ (x y : ℕ). x + y) (P .sum) (ap (allowed grid (lends g n s)) (P .comes) ∙ ap (λ (a : Answer). counted a n) p)
 
-      served-turns : (long : ℕ) (final : Answer) (wanted : List ℕ) → tableSize w h ≤ long → long ≤ boardLength w h → (final ≡ unfinished → ⊥)
-          → ((says : Answer) (β : List ℕ) → says ≡ final → β ≡ wanted → Ends rule w h g β₀ says β)
-          → Served grid (aimOf (gridKind rule w h g)) long final wanted longer s₀ → Turned rule w h g t₀ β₀ n s (turn g n s)
-      served-turns long final wanted whole most last ends S =
+      served-turns : (long : ℕ) (final : Answer) (wanted : List ℕ) → long ≤ boardLength kind w h → (final ≡ unfinished → ⊥)
+          → ((says : Answer) (t β : List ℕ) → says ≡ final → TableAfter kind rule w h g long t₀ t → β ≡ wanted → Ends kind rule w h g t₀ β₀ says t β)
+          → Served grid (aimOf (gridKind kind rule w h g)) long final wanted longer s₀ → Turned kind rule w h g t₀ β₀ n s (turn g n s)
+      served-turns long final wanted most last ends S =
           let A = subst (Answers grid long final (lends g n s)) (P .comes) (each-last grid (lends g n s) (Answers grid long final) (P .calls) s₀ (S .answers)) in record {
             long = long;
             final = final;
             wanted = wanted;
-            whole = whole;
             most = most;
             last = last;
             ends = ends;
@@ -191,17 +197,22 @@ module _ {rule : Rule} {w h : ℕ} {g : List ℕ} (O : Opens rule w h g (JobResu
             board = rw (longer-comes, longer-sum) at (S .board);
           }
 
-      turns : Turned rule w h g t₀ β₀ n s (turn g n s)
-      unfolding ThirdDemand tableSize
-      turns = go (third-demand rule w h g t₀ β₀ (JobResult.Ready (start rule w h)) (start rule w h) O refl longer longer-fair)
+      turns : Turned kind rule w h g t₀ β₀ n s (turn g n s)
+      unfolding ThirdDemand
+      turns = go (third-demand kind rule w h g t₀ β₀ (JobResult.Ready (start kind rule w h)) (start kind rule w h) O refl longer longer-fair)
         where
-          go : Outcome grid (aimOf (gridKind rule w h g)) longer s₀ → Turned rule w h g t₀ β₀ n s (turn g n s)
+          high : 0 < h
+          high = opened-frame .size .some-row
+
+          go : Outcome grid (aimOf (gridKind kind rule w h g)) longer s₀ → Turned kind rule w h g t₀ β₀ n s (turn g n s)
           go (solved board final O S) =
-              served-turns (boardLength w h) final board (omega arith) (omega arith) (λ e. let z : _≡_ {A = ℕ} 0 1 = cc in omega arith)
-              (λ says β e q. best (rw q (O .wanted)) (e ∙ O .says ∙ ap (λ (b : List ℕ). finished (score w h g b)) (sym q))) S
+              served-turns (boardLength kind w h) final board (omega arith) (λ e. let z : _≡_ {A = ℕ} 0 1 = cc in omega arith)
+              (λ says t β e F q.
+              best (rw q (O .wanted)) (e ∙ O .says ∙ ap (λ (b : List ℕ). finished (score w h g b)) (sym q)) (table-ends kind rule w h g high (boardLength kind w h) (shorter kind w h high) (omega arith) t₀ t F))
+              S
           go (unsolvable f S) =
-              served-turns (noneLength w h) infeasible β₀ (omega arith) (omega (arith, opened-frame .size .some-row)) (λ e. let z : _≡_ {A = ℕ} 0 1 = cc in omega arith)
-              (λ says β e q. none f e q) S
+              served-turns (noneLength w h) infeasible β₀ (shorter kind w h high) (λ e. let z : _≡_ {A = ℕ} 0 1 = cc in omega arith)
+              (λ says t β e F q. none f e q (table-ends kind rule w h g high (noneLength w h) (omega arith) (shorter kind w h high) t₀ t F)) S
 
     -- a turn that ends nothing passed its checks
     unfinished-passed : turn g n s .answer ≡ unfinished → checkIn g s ≡ passed
@@ -212,19 +223,20 @@ module _ {rule : Rule} {w h : ℕ} {g : List ℕ} (O : Opens rule w h g (JobResu
         go (refuses k values) e c = absurd (refuses-none (sym (ap answerOf (refused-turn g n s e)) ∙ u))
 
     -- a turn that ends nothing, and one that ends the job or is turned away
-    goes-on : 0 < n → turn g n s .answer ≡ unfinished → Goes rule w h g t₀ β₀ s (turn g n s .state)
+    goes-on : 0 < n → turn g n s .answer ≡ unfinished → Goes kind rule w h g t₀ β₀ s (turn g n s .state)
     goes-on some u =
         let p = unfinished-passed u in
         let T = turns p in
         let l = runs-on T u in
         let K = turn-kept g n s p in
-        let c : memoryCheck w h t₀ β₀ ≡ passed = sym (P .check) ∙ p in record {
+        let c : memoryCheck kind w h t₀ β₀ ≡ passed = sym (P .check) ∙ p in record {
           going = record {
             calls = longer;
             fair = longer-fair;
             comes = longer-comes p;
             sum = longer-sum p ∙ omega (arith, T .units);
             below = omega (arith, T .most);
+            kept = K .kind ∙ P .kept;
             ruled = K .ruled ∙ P .ruled;
             width = K .width ∙ P .width;
             height = K .height ∙ P .height;
@@ -237,7 +249,7 @@ module _ {rule : Rule} {w h : ℕ} {g : List ℕ} (O : Opens rule w h g (JobResu
           more = omega (arith, T .units);
         }
 
-    ends : (turn g n s .answer ≡ unfinished → ⊥) → SolvesTo (memoryCheck w h t₀ β₀) rule w h g t₀ β₀ (turn g n s .answer) (turn g n s .state .table) (turn g n s .state .board)
+    ends : (turn g n s .answer ≡ unfinished → ⊥) → SolvesTo (memoryCheck kind w h t₀ β₀) kind rule w h g t₀ β₀ (turn g n s .answer) (turn g n s .state .table) (turn g n s .state .board)
     ends f = record {
       turned = λ k values e.
           let q = refused-turn g n s (P .check ∙ e) in
@@ -246,29 +258,25 @@ module _ {rule : Rule} {w h : ℕ} {g : List ℕ} (O : Opens rule w h g (JobResu
       ended = λ e.
           let T = turns (P .check ∙ e) in
           let l = runs-out T f in
-          T .ends (turn g n s .answer) (turn g n s .state .board) (T .from l) (T .board (omega (arith, T .units)));
-      filled = λ e.
-          let T = turns (P .check ∙ e) in
-          let l = runs-out T f in
-          let q : min (turn g n s .state .job .units) (tableSize w h) ≡ tableSize w h = omega (arith, T .whole) in
-          rw q at (T .filled);
+          let u : turn g n s .state .job .units ≡ T .long = omega (arith, T .units) in
+          T .ends (turn g n s .answer) (turn g n s .state .table) (turn g n s .state .board) (T .from l) (rw u at (T .filled)) (T .board (omega (arith, T .units)));
     }
 
 -- ---- an opened job
 module _ {j : Job} {g : List ℕ} (R : Ready j g) where
-  fresh : j ≡ start (j .rule) (j .width) (j .height)
+  fresh : j ≡ start (j .kind) (j .rule) (j .width) (j .height)
   fresh = R .job j refl
 
-  opens : Opens (j .rule) (j .width) (j .height) g (JobResult.Ready (start (j .rule) (j .width) (j .height)))
-  opens = subst (λ (x : Job). Opens (j .rule) (j .width) (j .height) g (JobResult.Ready x)) fresh R
+  opens : Opens (j .kind) (j .rule) (j .width) (j .height) g (JobResult.Ready (start (j .kind) (j .rule) (j .width) (j .height)))
+  opens = subst (λ (x : Job). Opens (j .kind) (j .rule) (j .width) (j .height) g (JobResult.Ready x)) fresh R
 
   -- no call yet
-  pub ready-begins : {t₀ β₀ : List ℕ} → Going (j .rule) (j .width) (j .height) g t₀ β₀ (lentState j t₀ β₀)
-  ready-begins {t₀} {β₀} = subst (λ (x : Job). Going (j .rule) (j .width) (j .height) g t₀ β₀ (lentState x t₀ β₀)) (sym fresh) (begins opens t₀ β₀)
+  pub ready-begins : {t₀ β₀ : List ℕ} → Going (j .kind) (j .rule) (j .width) (j .height) g t₀ β₀ (lentState j t₀ β₀)
+  ready-begins {t₀} {β₀} = subst (λ (x : Job). Going (j .kind) (j .rule) (j .width) (j .height) g t₀ β₀ (lentState x t₀ β₀)) (sym fresh) (begins opens t₀ β₀)
 
   -- what a turn hands back
-  module _ {t₀ β₀ : List ℕ} {s : State} (P : Going (j .rule) (j .width) (j .height) g t₀ β₀ s) (n : ℕ) {r : Result} (is : r ≡ turn g n s) where
-    pub turn-goes-on : 0 < n → r .answer ≡ unfinished → Goes (j .rule) (j .width) (j .height) g t₀ β₀ s (r .state)
+  module _ {t₀ β₀ : List ℕ} {s : State} (P : Going (j .kind) (j .rule) (j .width) (j .height) g t₀ β₀ s) (n : ℕ) {r : Result} (is : r ≡ turn g n s) where
+    pub turn-goes-on : 0 < n → r .answer ≡ unfinished → Goes (j .kind) (j .rule) (j .width) (j .height) g t₀ β₀ s (r .state)
     turn-goes-on some u = rw is (goes-on opens t₀ β₀ n s P some (rw is at u))
 
     pub turn-ends : {o : Solved} → r .answer ≡ solvedSays o → Runs j g t₀ β₀ o (r .state .table) (r .state .board)

@@ -8,10 +8,11 @@ use Rattle.board.specs.Checks.{lengthCheck, tableSize, tableCheck}
 use Rattle.rule.specs.Rule.{gridCheck}
 use Rattle.rule.specs.declared.Rule.{Rule}
 use Rattle.solver.specs.Grid.{Solution, Optimal, score}
-use Rattle.job.specs.Jobs.{readCheck}
+use Rattle.job.specs.Jobs.{layersOf, boardLength, noneLength, readCheck}
 use Rattle.job.specs.Calls.{Opens}
 use Rattle.service.specs.Service.{finished, infeasible}
-use Rattle.solver.specs.Demand.{FilledTo}
+use Rattle.solver.specs.Demand.{FilledTo, HalvesTo}
+use Rattle.job.specs.declared.Kind.{Kind}
 use Rattle.job.specs.declared.Job.{Job}
 use Rattle.job.specs.declared.JobResult.{JobResult}
 use Rattle.runner.specs.declared.Solved.{Solved}
@@ -23,33 +24,39 @@ solvedSays Solved.Infeasible = infeasible
 solvedSays (Solved.Refused r) = refusalSays r
 
 -- the checks of the memory, as working makes them: 5, 6
-unfoldable pub memoryCheck : ℕ → ℕ → List ℕ → List ℕ → Answer
-memoryCheck w h table board = lengthCheck 5 w h board then tableCheck w h table
+unfoldable pub memoryCheck : Kind → ℕ → ℕ → List ℕ → List ℕ → Answer
+memoryCheck kind w h table board = lengthCheck 5 w h board then tableCheck w (layersOf kind h) table
 
 -- its checks: 1, 2, 13, 3, 4, 14 as opening, then those
-unfoldable pub solveCheck : Rule → ℕ → ℕ → List ℕ → List ℕ → List ℕ → Answer
-solveCheck rule w h givens table board = gridCheck rule w h then readCheck rule w h givens then memoryCheck w h table board
+unfoldable pub solveCheck : Kind → Rule → ℕ → ℕ → List ℕ → List ℕ → List ℕ → Answer
+solveCheck kind rule w h givens table board = gridCheck rule w h then readCheck rule w h givens then memoryCheck kind w h table board
+
+-- What the table holds in the end: of an ordinary job every entry, right; of two layers what the units of the job's length leave in the halves. Every place
+-- that no unit wrote holds what it held.
+abbrev pub TableEnds : Kind → Rule → ℕ → ℕ → List ℕ → ℕ → List ℕ → List ℕ → Type 0
+TableEnds Kind.Ordinary rule w h givens long table table′ = FilledTo rule w h givens (tableSize w h) table table′
+TableEnds Kind.TwoLayers rule w h givens long table table′ = HalvesTo rule w h givens long table table′
 
 -- the board that is left is the wanted one, and the answer its score; or there is no still board that keeps the givens, the answer says so, and
 -- the board is unwritten
-pub data Ends (rule : Rule) (w h : ℕ) (givens board : List ℕ) (says : Answer) (board′ : List ℕ) : Type 0 where
-  best : Optimal rule w h givens board′ → says ≡ finished (score w h givens board′) → Ends rule w h givens board says board′
-  none : ((other : List ℕ) → Solution rule w h givens other → ⊥) → says ≡ infeasible → board′ ≡ board → Ends rule w h givens board says board′
+pub data Ends (kind : Kind) (rule : Rule) (w h : ℕ) (givens table board : List ℕ) (says : Answer) (table′ board′ : List ℕ) : Type 0 where
+  best : Optimal rule w h givens board′ → says ≡ finished (score w h givens board′) → TableEnds kind rule w h givens (boardLength kind w h) table table′
+      → Ends kind rule w h givens table board says table′ board′
+  none : ((other : List ℕ) → Solution rule w h givens other → ⊥) → says ≡ infeasible → board′ ≡ board → TableEnds kind rule w h givens (noneLength w h) table table′
+      → Ends kind rule w h givens table board says table′ board′
 
--- Turned away, the call answers its refusal and writes nothing. Otherwise it comes to the job's end, and the table holds the right entries, with
--- what it held in every place past them.
-pub record SolvesTo (check : Answer) (rule : Rule) (w h : ℕ) (givens table board : List ℕ) (says : Answer) (table′ board′ : List ℕ) : Type 0 where
+-- Turned away, the call answers its refusal and writes nothing. Otherwise it comes to the job's end.
+pub record SolvesTo (check : Answer) (kind : Kind) (rule : Rule) (w h : ℕ) (givens table board : List ℕ) (says : Answer) (table′ board′ : List ℕ) : Type 0 where
   pub turned : (n : ℕ) (values : List ℕ) → check ≡ refuses n values → (says ≡ refuses n values) × (table′ ≡ table) × (board′ ≡ board)
-  pub ended : check ≡ passed → Ends rule w h givens board says board′
-  pub filled : check ≡ passed → FilledTo rule w h givens (tableSize w h) table table′
+  pub ended : check ≡ passed → Ends kind rule w h givens table board says table′ board′
 
-pub record Solves (rule : Rule) (w h : ℕ) (givens table board : List ℕ) (r : Solved) (table′ board′ : List ℕ) : Type 0 where
-  pub comes : SolvesTo (solveCheck rule w h givens table board) rule w h givens table board (solvedSays r) table′ board′
+pub record Solves (kind : Kind) (rule : Rule) (w h : ℕ) (givens table board : List ℕ) (r : Solved) (table′ board′ : List ℕ) : Type 0 where
+  pub comes : SolvesTo (solveCheck kind rule w h givens table board) kind rule w h givens table board (solvedSays r) table′ board′
 
 -- ---- the inner function
 -- a job that opening hands out for these givens
 abbrev pub Ready : Job → List ℕ → Type 0
-Ready j givens = Opens (j .rule) (j .width) (j .height) givens (JobResult.Ready j)
+Ready j givens = Opens (j .kind) (j .rule) (j .width) (j .height) givens (JobResult.Ready j)
 
 pub record Runs (j : Job) (givens table board : List ℕ) (r : Solved) (table′ board′ : List ℕ) : Type 0 where
-  pub comes : SolvesTo (memoryCheck (j .width) (j .height) table board) (j .rule) (j .width) (j .height) givens table board (solvedSays r) table′ board′
+  pub comes : SolvesTo (memoryCheck (j .kind) (j .width) (j .height) table board) (j .kind) (j .rule) (j .width) (j .height) givens table board (solvedSays r) table′ board′

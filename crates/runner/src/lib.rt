@@ -2,6 +2,7 @@
 use board::Refusal;
 use job::Job;
 use job::JobResult;
+use job::Kind;
 use rule::Rule;
 use solver::Status;
 ghost use Rattle.runner.specs.Solving.{Solves, Runs, Ready};
@@ -16,9 +17,10 @@ pub enum Solved {
 // The units that a working call is allowed.
 const ALLOWANCE: u32 = 1000;
 
-// Solves a grid of givens under a rule: leaves the best still board that keeps them, first in board order among the best, in `board`, over a
-// table of h × 4^w entries or more. Refusals 1, 2, 13, 3, 4, 14 as opening, then 5, 6 as working.
+// Solves a grid of givens under a rule, by a job of a kind: leaves the best still board that keeps them, first in board order among the best, in
+// `board`, over a table with room for the kind's layers. Refusals 1, 2, 13, 3, 4, 14 as opening, then 5, 6 as working.
 pub fn solve(
+    kind: Kind,
     rule: Rule,
     w: usize,
     h: usize,
@@ -26,9 +28,9 @@ pub fn solve(
     table: &mut [u16],
     board: &mut [u8],
 ) -> Solved
-    ensures { λ r. ⌜ Solves rule w h (now (givens .entry)) (now (table .entry)) (now (board .entry)) r (now (table .exit)) (now (board .exit)) ⌝ }
+    ensures { λ r. ⌜ Solves kind rule w h (now (givens .entry)) (now (table .entry)) (now (board .entry)) r (now (table .exit)) (now (board .exit)) ⌝ }
 {
-    match job::open(rule, w, h, givens) {
+    match job::open(kind, rule, w, h, givens) {
         JobResult::Refused(r) => Solved::Refused(r),
         JobResult::Ready(job) => run(job, givens, table, board),
     }

@@ -5,12 +5,13 @@
 use mathlib.Core.Path.{_≡_}
 use mathlib.Core.Bool.{Bool, false, _&&_}
 use mathlib.Core.List.{List}
-use Prim.Native.Nat.{ℕ, suc, _+_, _*_, _-_, _/_, _%_, _^_}
+use Prim.Native.Nat.{ℕ, suc, _+_, _*_, _-_, _/_, _%_, _^_, _<_}
 use lib.ListN.{getD}
 use Rattle.elimination.specs.Kind.{Kind}
 use Rattle.elimination.specs.Sums.{SumRules, sumKind}
 use Rattle.elimination.specs.Task.{Task, fill, row}
 use Rattle.elimination.specs.FillThenChoose.{plan}
+use Rattle.elimination.specs.TwoLayers as Two
 use Rattle.life.specs.Rows.{agree}
 use Rattle.score_table.specs.Rows.{rowWorth, rowKept}
 use Rattle.score_table.specs.declared.Want.{Want}
@@ -51,6 +52,10 @@ kindOf next w h givens = kindFor mostLive next w h givens
 unfoldable pub entryPlace : ℕ → ℕ → ℕ → ℕ → ℕ
 entryPlace w i a b = (i - 1) * 4 ^ w + a * 2 ^ w + b
 
+-- its place in a table of two layers: in the half numbered i modulo 2
+unfoldable pub halfPlace : ℕ → ℕ → ℕ → ℕ → ℕ
+halfPlace w i a b = i % 2 * 4 ^ w + a * 2 ^ w + b
+
 -- the numbers that a table holds from a place on
 abbrev pub readsFrom : List ℕ → ℕ → ℕ → ℕ
 readsFrom table first c = getD table (first + c) 0
@@ -59,7 +64,7 @@ readsFrom table first c = getD table (first + c) 0
 abbrev pub readsOf : ℕ → List ℕ → ℕ → ℕ → ℕ → ℕ
 readsOf w table i b c = getD table (entryPlace w i b c) 0
 
--- unit u of filling writes entry (h - rowsAfter, rowA, rowB): layer h first, then upward; in a layer a rises, then b
+-- of an ordinary job unit u of filling writes entry (h - rowsAfter, rowA, rowB): layer h first, then upward; in a layer a rises, then b
 abbrev pub rowsAfter : ℕ → ℕ → ℕ
 rowsAfter w u = u / 4 ^ w
 
@@ -73,13 +78,18 @@ rowB w u = u % 4 ^ w % 2 ^ w
 unfoldable pub unitPlace : ℕ → ℕ → ℕ → ℕ
 unitPlace w h u = entryPlace w (h - rowsAfter w u) (rowA w u) (rowB w u)
 
--- ---- the tasks of a grid's plan
--- what a task writes and reads lies where document 01 has it: entry (h - k, a, b), by entries (h - k + 1, b, c); and for row r + 1 entries (r + 1, b, c)
-abbrev pub InPlace : ℕ → ℕ → Task → Type 0
-InPlace w h (fill k source target j) =
-    (target + j ≡ entryPlace w (h - k) (j / 2 ^ w) (j % 2 ^ w)) × ((b c : ℕ) → source + (b * 2 ^ w + c) ≡ entryPlace w (h - k + 1) b c)
-InPlace w h (row r source) = (b c : ℕ) → source + (b * 2 ^ w + c) ≡ entryPlace w (r + 1) b c
+-- ---- the tasks of a job's plan
+-- what a task writes and reads lies where it has to, by the place of an entry: entry (h - k, a, b), by entries (h - k + 1, b, c); and for row r + 1 entries
+-- (r + 1, b, c)
+abbrev pub InPlace : (ℕ → ℕ → ℕ → ℕ) → ℕ → ℕ → Task → Type 0
+InPlace place w h (fill k source target j) =
+    (target + j ≡ place (h - k) (j / 2 ^ w) (j % 2 ^ w)) × ((b c : ℕ) → source + (b * 2 ^ w + c) ≡ place (h - k + 1) b c)
+InPlace place w h (row r source) = (b c : ℕ) → source + (b * 2 ^ w + c) ≡ place (r + 1) b c
 
--- THE PLACES: every task of the plan is in place
+-- THE PLACES: every task of the plan that fills the whole table is in place, where document 01 has it
 abbrev pub PlacesRight : Type 0
-PlacesRight = (w h u : ℕ) → InPlace w h (plan h (2 ^ w * 2 ^ w) u)
+PlacesRight = (w h u : ℕ) → InPlace (entryPlace w) w h (plan h (2 ^ w * 2 ^ w) u)
+
+-- THE HALVES: so is every task of the plan over two layers, where Req 05 has it
+abbrev pub HalvesRight : Type 0
+HalvesRight = (w h u : ℕ) → u < Two.startOf h (2 ^ w * 2 ^ w) h → InPlace (halfPlace w) w h (Two.plan h (2 ^ w * 2 ^ w) u)

@@ -1,6 +1,6 @@
 -- A working call unit by unit, and what calls that are turned away and resumptions answer.
 -- Assumes nothing.
-use mathlib.Core.Path.{_≡_, refl, sym, _∙_, ap}
+use mathlib.Core.Path.{_≡_, refl, sym, _∙_, ap, ap₂}
 use mathlib.Core.Bool.{Bool, true, false}
 use mathlib.Core.List.{List, []}
 use Prim.Native.Nat.{ℕ, zero, suc}
@@ -9,8 +9,9 @@ use Rattle.board.proofs.Answers.{refuses-none, then-gives, unless-gives, checke
 use Rattle.job.specs.Jobs.{jobFits, checkpointFits, checkpointSays, jobOf, pauseRule, resumeRule}
 use Rattle.job.specs.declared.Stage.{Stage}
 use Rattle.job.specs.declared.Job.{Job}
+use Rattle.job.specs.declared.Kind.{Kind}
 use Rattle.job.specs.declared.Checkpoint.{Checkpoint}
-use Rattle.job.proofs.Fits.{pausable, paused-numbers, job-back}
+use Rattle.job.proofs.Fits.{pausable, paused-numbers, job-back, of-kind}
 use Rattle.service.specs.Service.{stageSays, State, Step, next, spoiled, onStep, Service, worksOn, workCheck, workBy, workOf}
 use Rattle.service.specs.Demand.{afterResume, WorkAnswers, ResumeAnswers}
 
@@ -96,17 +97,18 @@ module _ (S : Service) where
     from = λ e l. absurd (refuses-none e);
   }
 
-  module _ (t : Checkpoint) (s : State (S .Table)) (f : jobFits (s .job) ≡ true) (fair : checkpointFits t ≡ true → pauseRule (s .job) ≡ gives (checkpointSays t)) where
-    pub resumed-same : afterResume (resumeRule t) t s ≡ s
+  module _ (kind : Kind) (t : Checkpoint) (s : State (S .Table)) (f : jobFits (s .job) ≡ true) (fair : checkpointFits kind t ≡ true → pauseRule (s .job) ≡ gives (checkpointSays t)) where
+    pub resumed-same : afterResume (resumeRule kind t) kind t s ≡ s
     unfolding resumeRule
-    resumed-same = go (checkpointFits t) refl
+    resumed-same = go (checkpointFits kind t) refl
       where
-        go : (b : Bool) → checkpointFits t ≡ b → afterResume (refuseUnless b 7 then gives (checkpointSays t)) t s ≡ s
+        go : (b : Bool) → checkpointFits kind t ≡ b → afterResume (refuseUnless b 7 then gives (checkpointSays t)) kind t s ≡ s
         go true e =
-            ap (λ (j : Job). record { job = j; table = s .table; board = s .board }) (ap jobOf (paused-numbers (s .job) t (fair e) .1) ∙ job-back (s .job) f)
+            let p = paused-numbers (s .job) t (fair e) .1 in
+            ap (λ (j : Job). record { job = j; table = s .table; board = s .board }) (ap₂ jobOf (of-kind kind (s .job) (rw p at e)) p ∙ job-back (s .job) f)
         go false e = refl
 
-    pub resume-answers : ResumeAnswers S t s
+    pub resume-answers : ResumeAnswers S kind t s
     unfolding resumeRule
     resume-answers = record {
       passes = λ e. rw e (sym (fair e) ∙ pausable (s .job) f .pauses);

@@ -98,9 +98,9 @@ module _ (S : Service) (A : Aim (S .Table)) (checks : ChecksSound S) {given : S 
       let P = work-called g t β n m s R (workCheck S (s .job) g t β) f (work-checked S (s .job) g t β 9 (λ e. omega arith) (checks (s .job) g t β)) in
       record { reached = P .reached; answers = P .answers }
   called pause m s R f = record { reached = rw (add-zero m) R; answers = pausable (s .job) (reached-fits R) }
-  called (resume t) m s R f =
-      let e = resumed-same S t s (reached-fits R) f in
-      record { reached = rw (add-zero m, e) R; answers = resume-answers S t s (reached-fits R) f }
+  called (resume kind t) m s R f =
+      let e = resumed-same S kind t s (reached-fits R) f in
+      record { reached = rw (add-zero m, e) R; answers = resume-answers S kind t s (reached-fits R) f }
 
   pub record Listed (m : ℕ) (cs : List (Call S)) (s : State (S .Table)) : Type 0 where
     pub reached : Reached (m + summed S cs s) (run S cs s)
@@ -148,9 +148,9 @@ module _ (S : Service) (checks : ChecksSound S) (given : S .Given) (s : State (S
       let P = work-waits g t β n (workCheck S (s .job) g t β) refl f (work-checked S (s .job) g t β 9 (λ e. omega arith) (checks (s .job) g t β)) in
       record { state = P .state; sum = P .sum; answers = P .answers }
   waits pause f = record { state = refl; sum = refl; answers = pausable (s .job) fits }
-  waits (resume t) f =
-      let e = resumed-same S t s fits f in
-      record { state = e; sum = refl; answers = resume-answers S t s fits f }
+  waits (resume kind t) f =
+      let e = resumed-same S kind t s fits f in
+      record { state = e; sum = refl; answers = resume-answers S kind t s fits f }
 
   pub record Idle (cs : List (Call S)) : Type 0 where
     pub state : run S cs s ≡ s

@@ -59,7 +59,7 @@ module _ (Given : Type 0) (check : Job → Given → List ℕ → List ℕ → A
   task-of : {o : Task} → J .plan u ≡ o → K .shape .plan u ≡ o
   task-of q = ap (λ (plan : ℕ → Task). plan u) (L .numbered .plans) ∙ q
 
-  job-task : shapeOf (s .job .width) (s .job .height) .plan u ≡ J .plan u
+  job-task : shapeOf (s .job .kind) (s .job .width) (s .job .height) .plan u ≡ J .plan u
   job-task = ap (λ (S : Shape). S .plan u) (L .numbered .is (s .job) O) ∙ ap (λ (plan : ℕ → Task). plan u) (L .numbered .plans)
 
   -- an ended job stays
@@ -75,8 +75,8 @@ module _ (Given : Type 0) (check : Job → Given → List ℕ → List ℕ → A
     until : u < K .shape .boardLength
     until = go (markOf (s .job .stage)) (subst (λ (S : Shape). Units S u (markOf (s .job .stage))) (L .numbered .is (s .job) O) fit) running
       where
-        fit : Units (shapeOf (s .job .width) (s .job .height)) u (markOf (s .job .stage))
-        fit = numbers-at (numbersOf (s .job)) (fits-numbers (s .job) f) .are .units
+        fit : Units (shapeOf (s .job .kind) (s .job .width) (s .job .height)) u (markOf (s .job .stage))
+        fit = numbers-at (s .job .kind) (numbersOf (s .job)) (fits-numbers (s .job) f) .are .units
 
         go : (m : ℕ) → Units (K .shape) u m → m ≡ 0 → u < K .shape .boardLength
         go m (runs l) z = l
@@ -107,7 +107,7 @@ module _ (Given : Type 0) (check : Job → Given → List ℕ → List ℕ → A
       is = cc
 
       back : numbersOf (jobWith (s .job) n) ≡ numbersWith (s .job) n
-      back = numbers-of-job (numbersWith (s .job) n) (continues J (K .shape) (K .Of) (L .numbered) .after-row (s .job) O f running r source q c lc)
+      back = numbers-of-job (s .job .kind) (numbersWith (s .job) n) (continues J (K .shape) (K .Of) (L .numbered) .after-row (s .job) O f running r source q c lc)
 
       rows-after : (b : Bool) → rowsChosen (K .shape) (suc u) (cond b 0 1) ≡ suc r
       unfolding rowsChosen
@@ -145,10 +145,10 @@ module _ (Given : Type 0) (check : Job → Given → List ℕ → List ℕ → A
   by-stage : (x : Stage) → s .job .stage ≡ x → OnBoard K x s s′
   by-stage (Stage.Filling above last live) q =
       fills (ap markOf q) (J .plan u) refl
-      (subst (λ (o : Task). isFill o ≡ true) job-task (subst (λ (x : Stage). stageFits (shapeOf (s .job .width) (s .job .height)) u x ≡ true) q (fits-stage (s .job) f)))
+      (subst (λ (o : Task). isFill o ≡ true) job-task (subst (λ (x : Stage). stageFits (shapeOf (s .job .kind) (s .job .width) (s .job .height)) u x ≡ true) q (fits-stage (s .job) f)))
   by-stage (Stage.Choosing above last live) q =
       chooses (ap markOf q) (J .plan u) refl
-      (subst (λ (o : Task). not (isFill o) ≡ true) job-task (subst (λ (x : Stage). stageFits (shapeOf (s .job .width) (s .job .height)) u x ≡ true) q (fits-stage (s .job) f)))
+      (subst (λ (o : Task). not (isFill o) ≡ true) job-task (subst (λ (x : Stage). stageFits (shapeOf (s .job .kind) (s .job .width) (s .job .height)) u x ≡ true) q (fits-stage (s .job) f)))
   by-stage (Stage.Finished above last score) q = stays 0 (ap markOf q)
   by-stage Stage.Infeasible q = stays 1 (ap markOf q)
 

@@ -18,6 +18,7 @@ use Rattle.elimination.proofs.Kind.{choose-below}
 use Rattle.job.specs.Jobs.{aboveOf, lastOf, liveOf, markOf, numbersOf, jobOf, jobFits, checkpointFits, numbersWith, jobWith}
 use Rattle.job.specs.declared.Stage.{Stage}
 use Rattle.job.specs.declared.Job.{Job}
+use Rattle.job.specs.declared.Kind.{Kind}
 use Rattle.job.specs.declared.Checkpoint.{Checkpoint}
 use Rattle.job.proofs.Checkpoints.{numbers-of-job, resumed-fits}
 use Rattle.service.specs.Service.{unfinished, stageSays, State, Step, next, spoiled}
@@ -38,8 +39,8 @@ abbrev pub view : State (List ℕ) → Elimination.State ℕ (List ℕ)
 view s = viewOf (numbersOf (s .job)) (s .table) (s .board)
 
 -- the view of a job of numbers that fit is theirs
-view-of : (t : Checkpoint) (table board : List ℕ) → checkpointFits t ≡ true → view (record { job = jobOf t; table = table; board = board }) ≡ viewOf t table board
-view-of t table board f = ap (λ (n : Checkpoint). viewOf n table board) (numbers-of-job t f)
+view-of : (kind : Kind) (t : Checkpoint) (table board : List ℕ) → checkpointFits kind t ≡ true → view (record { job = jobOf kind t; table = table; board = board }) ≡ viewOf t table board
+view-of kind t table board f = ap (λ (n : Checkpoint). viewOf n table board) (numbers-of-job kind t f)
 
 mark-more : (b : Bool) → markIn (cond b 0 1) ≡ cond b running finished
 mark-more true = refl
@@ -62,11 +63,11 @@ module _ (J : Setup ℕ (List ℕ)) (Of : Job → Type 0) (C : Continues J Of) w
   Steps (next s′) s = Here s′ × (view s′ ≡ machine J .unit (view s))
   Steps spoiled s = (machine J .unit (view s) ≡ view s) × (Elimination.ended (view s) ≡ false)
 
-  moved : (s : State (List ℕ)) → Here s → (n : Numbers) → checkpointFits (numbersWith (s .job) n) ≡ true → (table board : List ℕ)
+  moved : (s : State (List ℕ)) → Here s → (n : Numbers) → checkpointFits (s .job .kind) (numbersWith (s .job) n) ≡ true → (table board : List ℕ)
       → viewOf (numbersWith (s .job) n) table board ≡ machine J .unit (view s) → Steps (next record { job = jobWith (s .job) n; table = table; board = board }) s
   moved s H n f table board e =
       let t = numbersWith (s .job) n in
-      (record { of = C .same (s .job) t (H .of) refl refl refl refl; taken = resumed-fits t f }, view-of t table board f ∙ e)
+      (record { of = C .same (s .job) t (H .of) refl refl refl refl; taken = resumed-fits (s .job .kind) t f }, view-of (s .job .kind) t table board f ∙ e)
 
   row-law : (s : State (List ℕ)) → Here s → markOf (s .job .stage) ≡ 0 → (r source : ℕ) → J .plan (s .job .units) ≡ row r source
       → (o : Choice ℕ) → RowBelow (J .kind .codes) o → machine J .unit (view s) ≡ takeRow J r (view s) o → Steps (rowStep J r s o) s

@@ -7,15 +7,17 @@ use Prim.Native.Nat.{ℕ, _+_, _≤_, _<_, min}
 use Rattle.board.specs.Answers.{Answer, gives, refuses, passed}
 use Rattle.job.specs.Jobs.{jobSays, checkpointSays, checkpointFits, jobOf, pauseRule, resumeRule}
 use Rattle.job.specs.Calls.{Pausable}
+use Rattle.job.specs.declared.Kind.{Kind}
 use Rattle.job.specs.declared.Checkpoint.{Checkpoint}
 use Rattle.service.specs.Service.{unfinished, infeasible, State, Service, Result, workCheck, workOf}
 
 -- ---- a list of calls
--- A working call lends what is read, a table and a board, and has an allowance. It and a pause get the job last handed out.
+-- A working call lends what is read, a table and a board, and has an allowance. It and a pause get the job last handed out. A resumption names the kind that it
+-- resumes as.
 pub data Call (S : Service) : Type 0 where
   work : (given : S .Given) (table : S .Table) (board : List ℕ) (allowance : ℕ) → Call S
   pause : Call S
-  resume : Checkpoint → Call S
+  resume : Kind → Checkpoint → Call S
 
 module _ {T : Type 0} where
   -- A working call that passes its checks leaves what it leaves in the list's own table and board. One that is turned away hands its job back;
@@ -25,9 +27,9 @@ module _ {T : Type 0} where
   afterWork (refuses n values) left s = record { job = left .job; table = s .table; board = s .board }
 
   -- a resumption that is turned away hands out no job
-  abbrev pub afterResume : Answer → Checkpoint → State T → State T
-  afterResume (gives values) t s = record { job = jobOf t; table = s .table; board = s .board }
-  afterResume (refuses n values) t s = s
+  abbrev pub afterResume : Answer → Kind → Checkpoint → State T → State T
+  afterResume (gives values) kind t s = record { job = jobOf kind t; table = s .table; board = s .board }
+  afterResume (refuses n values) kind t s = s
 
 -- an allowance that is turned away isn't summed
 abbrev pub counted : Answer → ℕ → ℕ
@@ -40,7 +42,7 @@ module _ (S : Service) where
   afterCall (work given table board allowance) s =
       afterWork (workCheck S (s .job) given table board) (workOf S (s .job) given table board allowance .state) s
   afterCall pause s = s
-  afterCall (resume t) s = afterResume (resumeRule t) t s
+  afterCall (resume kind t) s = afterResume (resumeRule kind t) kind t s
 
   -- after a list of calls
   unfoldable pub run : List (Call S) → State (S .Table) → State (S .Table)
@@ -58,12 +60,12 @@ module _ (S : Service) where
   Fair opened (work given table board allowance) s =
       workCheck S (s .job) given table board ≡ passed → (given ≡ opened) × (table ≡ s .table) × (board ≡ s .board)
   Fair opened pause s = Unit {0}
-  Fair opened (resume t) s = checkpointFits t ≡ true → pauseRule (s .job) ≡ gives (checkpointSays t)
+  Fair opened (resume kind t) s = checkpointFits kind t ≡ true → pauseRule (s .job) ≡ gives (checkpointSays t)
 
   abbrev pub allowed : Call S → State (S .Table) → ℕ
   allowed (work given table board allowance) s = counted (workCheck S (s .job) given table board) allowance
   allowed pause s = 0
-  allowed (resume t) s = 0
+  allowed (resume kind t) s = 0
 
   -- the sum of the allowances that passed
   unfoldable pub summed : List (Call S) → State (S .Table) → ℕ
@@ -80,17 +82,17 @@ module _ (S : Service) where
     pub from : check ≡ passed → long ≤ result .state .job .units → result .answer ≡ final
 
   -- A resumption that passes hands this job out again; one that is turned away answers 7 and hands out none. Either leaves everything as it is.
-  pub record ResumeAnswers (t : Checkpoint) (s : State (S .Table)) : Type 0 where
-    pub passes : checkpointFits t ≡ true → resumeRule t ≡ gives (jobSays (s .job))
-    pub turned : checkpointFits t ≡ false → resumeRule t ≡ refuses 7 []
-    pub same : afterCall (resume t) s ≡ s
+  pub record ResumeAnswers (kind : Kind) (t : Checkpoint) (s : State (S .Table)) : Type 0 where
+    pub passes : checkpointFits kind t ≡ true → resumeRule kind t ≡ gives (jobSays (s .job))
+    pub turned : checkpointFits kind t ≡ false → resumeRule kind t ≡ refuses 7 []
+    pub same : afterCall (resume kind t) s ≡ s
 
   abbrev pub Answers : ℕ → Answer → Call S → State (S .Table) → Type 0
   Answers long final (work given table board allowance) s =
       WorkAnswers long final (workCheck S (s .job) given table board) (record { job = s .job; table = table; board = board })
       (workOf S (s .job) given table board allowance)
   Answers long final pause s = Pausable (s .job)
-  Answers long final (resume t) s = ResumeAnswers t s
+  Answers long final (resume kind t) s = ResumeAnswers kind t s
 
 -- ---- the claim
 -- what an opened job of a kind is to come to

@@ -20,10 +20,10 @@ use Rattle.service.specs.Service.{State, Step, next, spoiled}
 abbrev pub here : Job → Numbers
 here j = numbersIn (numbersOf j)
 
--- of the jobs of one kind, rule and size: another job of the same rule and size is one of them, whatever its other numbers
+-- of the jobs of one kind, rule and size: another job of the same kind, rule and size is one of them, whatever its other numbers
 abbrev pub OfAnyNumbers : (Job → Type 0) → Type 0
 OfAnyNumbers Of =
-    (j : Job) (t : Checkpoint) → Of j → t .width ≡ j .width → t .height ≡ j .height → t .births ≡ j .rule .births → t .survivals ≡ j .rule .survivals → Of (jobOf t)
+    (j : Job) (t : Checkpoint) → Of j → t .width ≡ j .width → t .height ≡ j .height → t .births ≡ j .rule .births → t .survivals ≡ j .rule .survivals → Of (jobOf (j .kind) t)
 
 module _ (J : Setup ℕ (List ℕ)) where
   -- a row is written into its part of the board; where there is none, the job ends at row 1, and the table is spoiled at a later row
@@ -57,11 +57,11 @@ module _ (J : Setup ℕ (List ℕ)) where
   -- The numbers go on: from numbers that fit, of a running job, the next ones fit. `Of` says which jobs are the setup's.
   pub record Continues (Of : Job → Type 0) : Type 0 where
     pub after-entry : (j : Job) → Of j → jobFits j ≡ true → markOf (j .stage) ≡ 0 → (k source target i : ℕ) → J .plan (j .units) ≡ fill k source target i
-        → checkpointFits (numbersWith j (afterEntry (here j))) ≡ true
+        → checkpointFits (j .kind) (numbersWith j (afterEntry (here j))) ≡ true
     pub after-row : (j : Job) → Of j → jobFits j ≡ true → markOf (j .stage) ≡ 0 → (r source : ℕ) → J .plan (j .units) ≡ row r source → (c : ℕ) → c < J .kind .codes
-        → checkpointFits (numbersWith j (afterRow (J .height) r c (J .kind .add (J .height - suc r) c (liveOf (j .stage))) (here j))) ≡ true
+        → checkpointFits (j .kind) (numbersWith j (afterRow (J .height) r c (J .kind .add (J .height - suc r) c (liveOf (j .stage))) (here j))) ≡ true
     pub after-none : (j : Job) → Of j → jobFits j ≡ true → markOf (j .stage) ≡ 0 → (source : ℕ) → J .plan (j .units) ≡ row 0 source
-        → checkpointFits (numbersWith j (afterNone (here j))) ≡ true
+        → checkpointFits (j .kind) (numbersWith j (afterNone (here j))) ≡ true
     pub same : OfAnyNumbers Of
 
   -- What a kind has to show for that: its shape is lawful and the setup's, its jobs are of this shape, and a row adds at most what the shape says.
@@ -70,7 +70,7 @@ module _ (J : Setup ℕ (List ℕ)) where
     pub plans : S .plan ≡ J .plan
     pub rows : S .rows ≡ J .height
     pub codes : S .codes ≡ J .kind .codes
-    pub is : (j : Job) → Of j → shapeOf (j .width) (j .height) ≡ S
+    pub is : (j : Job) → Of j → shapeOf (j .kind) (j .width) (j .height) ≡ S
     pub earns : (k c n : ℕ) → J .kind .add k c n ≤ S .most + n
     pub same : OfAnyNumbers Of
 

@@ -11,7 +11,7 @@ use Rattle.board.specs.Answers.{Answer, gives, refuses, _then_, Checked}
 use Rattle.board.specs.Checks.{lengthCheck, tableSize, tableCheck}
 use Rattle.board.proofs.Answers.{then-gives, unless-gives, checked-then, checked-unless}
 use Rattle.edges.proofs.Theorems.{edge-checked}
-use Rattle.job.specs.Jobs.{pauseRule, readCheck}
+use Rattle.job.specs.Jobs.{layersOf, pauseRule, readCheck}
 use Rattle.job.proofs.ReadChecks.{read-marks, read-checked}
 use Rattle.service.specs.Service.{workCheck}
 use Rattle.service.specs.Laws.{ChecksSound}
@@ -28,7 +28,7 @@ pause-refused j g t β e = Shared.pause-refused grid j g t β e
 
 module _ (j : Job) (g t β : List ℕ) where
   abbrev entriesCheck : Answer
-  entriesCheck = tableCheck (j .width) (j .height) t
+  entriesCheck = tableCheck (j .width) (layersOf (j .kind) (j .height)) t
 
   abbrev cellsCheck : Answer
   cellsCheck = lengthCheck 5 (j .width) (j .height) β
@@ -39,16 +39,16 @@ module _ (j : Job) (g t β : List ℕ) where
   lent-checked n p q c =
       checked-then n (readCheck (j .rule) (j .width) (j .height) g) (cellsCheck then entriesCheck) c
       (checked-then n cellsCheck entriesCheck (checked-unless n (eqb (length β) (j .width * j .height)) 5 p)
-      (checked-unless n (leb (tableSize (j .width) (j .height)) (length t)) 6 q))
+      (checked-unless n (leb (tableSize (j .width) (layersOf (j .kind) (j .height))) (length t)) 6 q))
 
   -- what they have shown where they pass
-  pub lent-passed : {values : List ℕ} → lentCheck j g t β ≡ gives values → (length β ≡ j .width * j .height) × (tableSize (j .width) (j .height) ≤ length t)
+  pub lent-passed : {values : List ℕ} → lentCheck j g t β ≡ gives values → (length β ≡ j .width * j .height) × (tableSize (j .width) (layersOf (j .kind) (j .height)) ≤ length t)
   unfolding lentCheck
   lent-passed e =
       let b = then-gives (readCheck (j .rule) (j .width) (j .height) g) (cellsCheck then entriesCheck) e in
       let c = then-gives cellsCheck entriesCheck (b .1) in (
         eqb-true (length β) (j .width * j .height) (unless-gives (eqb (length β) (j .width * j .height)) 5 (c .0 .1)),
-        leb-true (tableSize (j .width) (j .height)) (length t) (unless-gives (leb (tableSize (j .width) (j .height)) (length t)) 6 (c .1)),
+        leb-true (tableSize (j .width) (layersOf (j .kind) (j .height))) (length t) (unless-gives (leb (tableSize (j .width) (layersOf (j .kind) (j .height))) (length t)) 6 (c .1)),
       )
 
   pub lent-of : {values : List ℕ} → workCheck grid j g t β ≡ gives values → Lent j g t β

@@ -22,6 +22,7 @@ use Rattle.edges.proofs.Theorems.{edge-checks-right}
 use Rattle.life.specs.Plane.{Plane, onPlane, neighbours, Still}
 use Rattle.life.proofs.OnPlane.{Off, before, nought, past, off-row, off-column}
 use Rattle.job.specs.Jobs.{readCheck, openRule}
+use Rattle.job.specs.declared.Kind.{Kind}
 use Rattle.job.specs.declared.Job.{Job}
 use Rattle.service.specs.Service.{workCheck, workOf}
 use Rattle.job.proofs.ReadChecks.{read-checked}
@@ -105,9 +106,9 @@ module _ {rule : Rule} {w h : ℕ} {g b : List ℕ} (S : Solution rule w h g b) 
   read-without : Checked 14 (readCheck rule w h g)
   read-without = read-checked rule w h g 14 (λ e. omega arith) (λ e. omega arith) (rw (board-passes-edges S) refl)
 
-  not-opened : {values : List ℕ} → openRule rule w h g ≡ refuses 14 values → ⊥
+  not-opened : (kind : Kind) {values : List ℕ} → openRule kind rule w h g ≡ refuses 14 values → ⊥
   unfolding openRule
-  not-opened e =
+  not-opened kind e =
       let p = past-check 14 (gridCheck rule w h) (grid-checked rule 14 w h (λ e. omega arith) (λ e. omega arith) (λ e. omega arith)) e in
       refuses-none (sym (past-check 14 (readCheck rule w h g) read-without p))
 
@@ -121,6 +122,6 @@ not-worked j g t β n S e =
 pub edge-three-has-no-board : EdgeThreeHasNoBoard
 edge-three-has-no-board = record {
   passes = λ rule w h g b S. board-passes-edges S;
-  opening = λ rule w h g values e b S. not-opened S e;
+  opening = λ kind rule w h g values e b S. not-opened S kind e;
   working = λ j g t β n values e b S. not-worked j g t β n S e;
 }

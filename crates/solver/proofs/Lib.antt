@@ -11,3 +11,4 @@ pub mod CheckLaws
 pub mod EdgeThrees
 pub mod Progress
 pub mod Third
+pub mod SameBoard

@@ -7,6 +7,7 @@ use native.Mathlib.Omega.{arith}
 use Rattle.elimination.specs.Job as Elimination
 use Rattle.rule.specs.declared.Rule.{Rule}
 use Rattle.job.specs.Jobs.{shapeOf}
+use Rattle.job.specs.declared.Kind.{Kind}
 use Rattle.job.proofs.Shapes.{shape-lawful}
 use Rattle.job.proofs.Fits.{Frame}
 use Rattle.score_table.proofs.Marks.{row-worth-le}
@@ -18,24 +19,24 @@ use Rattle.solver.specs.Working.{lentCheck}
 use Rattle.solver.specs.Units.{State, setupOf, unitOf, grid}
 use Rattle.solver.specs.Demand.{Of}
 
-module _ {rule : Rule} {w h : ℕ} (z : Frame rule w h) (g : List ℕ) where
-  pub numbered : Numbered (setupOf rule w h g) (shapeOf w h) (Of rule w h)
+module _ (kind : Kind) {rule : Rule} {w h : ℕ} (z : Frame rule w h) (g : List ℕ) where
+  pub numbered : Numbered (setupOf kind rule w h g) (shapeOf kind w h) (Of kind rule w h)
   numbered = record {
-    shaped = shape-lawful w h (z .size .some-row);
+    shaped = shape-lawful w h kind (z .size .some-row);
     plans = refl;
     rows = refl;
     codes = refl;
-    is = λ j O. ap₂ shapeOf (O .wide) (O .tall);
+    is = λ j O. rw (O .kept, O .wide, O .tall);
     earns = λ k c n. omega (arith, row-worth-le w g ((h - suc k) * w) c);
-    same = λ j t O a b c d. record { ruled = ap₂ (λ (x y : ℕ). record { births = x; survivals = y }) c d ∙ O .ruled; wide = a ∙ O .wide; tall = b ∙ O .tall };
+    same = λ j t O a b c d. record { kept = O .kept; ruled = ap₂ (λ (x y : ℕ). record { births = x; survivals = y }) c d ∙ O .ruled; wide = a ∙ O .wide; tall = b ∙ O .tall };
   }
 
-  pub unit-same : (s : State) → Of rule w h (s .job) → unitOf g s ≡ unitBy (setupOf rule w h g) s
+  pub unit-same : (s : State) → Of kind rule w h (s .job) → unitOf g s ≡ unitBy (setupOf kind rule w h g) s
   unfolding unitOf
-  unit-same s O = rw (O .ruled, O .wide, O .tall)
+  unit-same s O = rw (O .kept, O .ruled, O .wide, O .tall)
 
 -- ---- and the job follows the machine
-abbrev pub follows : {rule : Rule} {w h : ℕ} → Frame rule w h → (g : List ℕ) → Follows grid g (Elimination.machine (setupOf rule w h g))
-follows {rule} {w} {h} z g =
-    Shared.follows (List ℕ) lentCheck unitOf g (setupOf rule w h g) (Of rule w h)
-    (continues (setupOf rule w h g) (shapeOf w h) (Of rule w h) (numbered z g)) (unit-same z g)
+abbrev pub follows : (kind : Kind) {rule : Rule} {w h : ℕ} → Frame rule w h → (g : List ℕ) → Follows grid g (Elimination.machine (setupOf kind rule w h g))
+follows kind {rule} {w} {h} z g =
+    Shared.follows (List ℕ) lentCheck unitOf g (setupOf kind rule w h g) (Of kind rule w h)
+    (continues (setupOf kind rule w h g) (shapeOf kind w h) (Of kind rule w h) (numbered kind z g)) (unit-same kind z g)

@@ -1,16 +1,18 @@
 -- What is done by now, in the terms of a grid's table and board, from what the units of any plan leave.
 -- Assumes nothing.
-use mathlib.Core.Path.{_≡_, sym, _∙_, ap₂}
-use mathlib.Core.Bool.{true, cond}
+use mathlib.Core.Path.{_≡_, refl, sym, _∙_, ap, ap₂, subst}
+use mathlib.Core.Bool.{true, false, cond}
 use mathlib.Core.List.{List}
-use Prim.Native.Nat.{ℕ, zero, suc, _+_, _*_, _-_, _/_, _%_, _^_, _≤_, _<_, min}
+use Prim.Native.Nat.{ℕ, zero, suc, _+_, _*_, _-_, _/_, _%_, _^_, _≤_, _<_}
 use native.Mathlib.Omega.{arith}
+use borrow.Author.Tests.{ne-eqb}
 use lib.Dec.{eqb}
 use Rattle.board.specs.Checks.{tableSize}
-use Rattle.elimination.specs.FillThenChoose.{plan}
+use Rattle.elimination.specs.Task.{Task, fill, row}
 use Rattle.elimination.specs.Table.{rightAt}
+use Rattle.elimination.specs.TwoLayers as Two
 use Rattle.elimination.specs.Places as Places
-use Rattle.elimination.specs.Shape.{rowsChosen}
+use Rattle.elimination.specs.Shape.{rowsChosen, entriesFilled}
 use Rattle.elimination.specs.Progress.{Written, rowAt, worthSoFar, Carried}
 use Rattle.elimination.proofs.Shape.{Units, runs, ends, fails}
 use Rattle.elimination.proofs.FillThenChoose.{stands, writes-not}
@@ -21,25 +23,38 @@ use Rattle.board.specs.Boards.{Board}
 use Rattle.life.specs.Rows.{rowOf}
 use Rattle.score_table.specs.Rows.{rowWorth}
 use Rattle.service.specs.JobKinds.{rowsIn}
-use Rattle.job.specs.Jobs.{shapeOf, aboveOf, lastOf, liveOf, markOf, numbersOf, jobFits}
-use Rattle.job.proofs.Shapes.{none-long}
+use Rattle.job.specs.Jobs.{boardLength, planOf, chosenIn, shapeOf, aboveOf, lastOf, liveOf, markOf, numbersOf, jobFits}
+use Rattle.job.specs.declared.Kind.{Kind}
+use Rattle.job.proofs.Shapes.{shape-rounds, shape-orderly, shorter, chosen-once, rows-are-choosing-units}
 use Rattle.job.proofs.Fits.{Frame, numbers-at, fits-numbers}
 use Rattle.board.proofs.Powers.{four-two, table-four}
-use Rattle.score_table.proofs.Places.{place-same}
+use Rattle.score_table.specs.ScoreTable.{halfPlace, InPlace}
+use Rattle.score_table.proofs.Places.{place-same, halves-right}
 use Rattle.solver.specs.Grid.{score, Optimal}
 use Rattle.solver.specs.Units.{State, setupOf}
-use Rattle.solver.specs.Demand.{rightUnit, FilledTo, Progress, Of, gridKind}
+use Rattle.solver.specs.Demand.{rightUnit, FilledTo, HalvesTo, TableAfter, Progress, Of, gridKind}
 use Rattle.solver.proofs.RowLaws.{row-none, score-more, score-none}
 use Rattle.board_rows.specs.Rows.{readRow}
 use Rattle.board_rows.proofs.Theorems.{reads-as-row}
 use Rattle.solver.proofs.Endings.{kind}
 
+-- at most as many units are done as a job with a board has
+units-few : (jobKind : Kind) (w h u m : ℕ) → 0 < h → Units (shapeOf jobKind w h) u m → u ≤ boardLength jobKind w h
+units-few jobKind w h u m high (runs l) = omega arith
+units-few jobKind w h u m high (ends e) = omega arith
+units-few jobKind w h u m high (fails e) = omega (arith, shorter jobKind w h high)
+
 -- the units done are the entries written and the rows chosen
-units-split : (w h u m : ℕ) → Units (shapeOf w h) u m → u ≡ min u (tableSize w h) + rowsChosen (shapeOf w h) u m + cond (eqb m 2) 1 0
+units-are : (jobKind : Kind) (w h u m : ℕ) → 0 < h → Units (shapeOf jobKind w h) u m
+    → u ≡ entriesFilled (planOf jobKind w h) u + rowsChosen (shapeOf jobKind w h) u m + cond (eqb m 2) 1 0
 unfolding rowsChosen
-units-split w h u m (runs l) = omega arith
-units-split w h u m (ends e) = omega arith
-units-split w h u m (fails e) = omega (arith, none-long w h)
+units-are jobKind w h u m high U = go m U (rows-are-choosing-units jobKind w h u high (units-few jobKind w h u m high U))
+  where
+    go : (m : ℕ) → Units (shapeOf jobKind w h) u m → u ≡ entriesFilled (planOf jobKind w h) u + chosenIn jobKind w h u
+        → u ≡ entriesFilled (planOf jobKind w h) u + cond (eqb m 2) 0 (chosenIn jobKind w h u) + cond (eqb m 2) 1 0
+    go m (runs l) s = omega (arith, s)
+    go m (ends e) s = omega (arith, s)
+    go m (fails e) s = omega (arith, s, ap (chosenIn jobKind w h) e, chosen-once jobKind w h high)
 
 -- the table: its right numbers are row elimination's
 module _ (rule : Rule) (w h : ℕ) (g : List ℕ) where
@@ -47,50 +62,85 @@ module _ (rule : Rule) (w h : ℕ) (g : List ℕ) where
   unfolding rightUnit
   right-same u = rw (four-two w) (sym (right-at-entry (kind rule w h g) (u / (2 ^ w * 2 ^ w)) (u % (2 ^ w * 2 ^ w))))
 
-table-filled : (rule : Rule) (w h : ℕ) (g : List ℕ) (m : ℕ) (t₀ t : List ℕ) → Places.Filled (kind rule w h g) (plan h (2 ^ w * 2 ^ w)) m t₀ t
-    → FilledTo rule w h g (min m (tableSize w h)) t₀ t
-table-filled rule w h g m t₀ t F = record {
+table-filled : (rule : Rule) (w h : ℕ) (g : List ℕ) (m n : ℕ) → m ≡ n + (m - tableSize w h) → (t₀ t : List ℕ)
+    → Places.Filled (kind rule w h g) (planOf Kind.Ordinary w h) m t₀ t → FilledTo rule w h g n t₀ t
+table-filled rule w h g m n split t₀ t F = record {
   size = F .size;
   right = λ u l.
-      let b : u < h * (2 ^ w * 2 ^ w) = omega (arith, table-four w h) in
-      let S = stands h (2 ^ w * 2 ^ w) u m b (omega arith) in
+      let b : u < h * (2 ^ w * 2 ^ w) = omega (arith, split, table-four w h) in
+      let S = stands h (2 ^ w * 2 ^ w) u m b (omega (arith, split)) in
       rw (place-same w h u, right-same rule w h g u) (F .right _ _ _ S);
-  rest = λ p f. F .rest p (λ v l. writes-not h (2 ^ w * 2 ^ w) v p (λ b e. f v (omega (arith, table-four w h)) (e ∙ sym (place-same w h v))));
+  rest = λ p f. F .rest p (λ v l. writes-not h (2 ^ w * 2 ^ w) v p (λ b e. f v (omega (arith, split, table-four w h)) (e ∙ sym (place-same w h v))));
 }
 
-module _ {rule : Rule} {w h : ℕ} (z : Frame rule w h) (g : List ℕ) where
+-- no unit writes past the two halves
+writes-past : (w h v p : ℕ) → v < boardLength Kind.TwoLayers w h → 2 * 4 ^ w ≤ p → Places.writes (planOf Kind.TwoLayers w h v) p ≡ false
+unfolding tableSize
+writes-past w h v p l b = go (planOf Kind.TwoLayers w h v) refl
+  where
+    go : (o : Task) → planOf Kind.TwoLayers w h v ≡ o → Places.writes o p ≡ false
+    go (fill k source target j) e = ne-eqb p (target + j) (λ q. omega (arith, q, shape-orderly w h Kind.TwoLayers .inside v k source target j l e))
+    go (row r source) e = refl
+
+-- what a unit fills lies in its layer's half
+stands-half : (w h v k source target j : ℕ) → v < boardLength Kind.TwoLayers w h → planOf Kind.TwoLayers w h v ≡ fill k source target j
+    → target + j ≡ halfPlace w (h - k) (j / 2 ^ w) (j % 2 ^ w)
+stands-half w h v k source target j l e =
+    let long : Two.startOf h (2 ^ w * 2 ^ w) h ≡ boardLength Kind.TwoLayers w h =
+    ap (λ (q : ℕ). Two.startOf h q h) (sym (four-two w)) ∙ shape-rounds w h Kind.TwoLayers .board in
+    subst (InPlace (halfPlace w) w h) e (halves-right w h v (rw long l)) .0
+
+halves-filled : (rule : Rule) (w h : ℕ) (g : List ℕ) (m : ℕ) → m ≤ boardLength Kind.TwoLayers w h → (t₀ t : List ℕ)
+    → Places.Filled (kind rule w h g) (planOf Kind.TwoLayers w h) m t₀ t → HalvesTo rule w h g m t₀ t
+halves-filled rule w h g m few t₀ t F = record {
+  size = F .size;
+  stands = λ p k j S. S .place ∙ stands-half w h (S .unit) k (S .source) (S .target) j (omega (arith, S .before)) (S .fills);
+  right = λ p k j S. F .right p k j S ∙ right-at-entry (kind rule w h g) k j;
+  rest = F .rest;
+  past = λ p b. F .rest p (λ v l. writes-past w h v p (omega arith) b);
+}
+
+-- by the kind
+table-after : (jobKind : Kind) (rule : Rule) (w h : ℕ) (g : List ℕ) (m : ℕ) → 0 < h → m ≤ boardLength jobKind w h → (t₀ t : List ℕ)
+    → Places.Filled (kind rule w h g) (planOf jobKind w h) m t₀ t → TableAfter jobKind rule w h g m t₀ t
+table-after Kind.Ordinary rule w h g m high few t₀ t F =
+    table-filled rule w h g m (entriesFilled (planOf Kind.Ordinary w h) m) (rows-are-choosing-units Kind.Ordinary w h m high few) t₀ t F
+table-after Kind.TwoLayers rule w h g m high few t₀ t F = halves-filled rule w h g m few t₀ t F
+
+module _ (jobKind : Kind) {rule : Rule} {w h : ℕ} (z : Frame rule w h) (g : List ℕ) where
   -- row i, counted from 1
   row-same : (wanted : List ℕ) (i : ℕ) → i ≤ h → rowAt (readRow w w) wanted i ≡ rowOf w h wanted i
   row-same wanted zero l = sym (row-none w h wanted)
   row-same wanted (suc r) l = sym (reads-as-row w h r wanted l)
 
   -- what the first k rows of a board are worth is their score
-  worth-score : {wanted : List ℕ} → Board w h wanted → (k : ℕ) → k ≤ h → worthSoFar (setupOf rule w h g) (readRow w w) wanted k ≡ score w k g wanted
-  worth-score {wanted} B zero l = worth-none (setupOf rule w h g) (readRow w w) wanted ∙ sym (score-none w g wanted)
+  worth-score : {wanted : List ℕ} → Board w h wanted → (k : ℕ) → k ≤ h → worthSoFar (setupOf jobKind rule w h g) (readRow w w) wanted k ≡ score w k g wanted
+  worth-score {wanted} B zero l = worth-none (setupOf jobKind rule w h g) (readRow w w) wanted ∙ sym (score-none w g wanted)
   worth-score {wanted} B (suc r) l =
       let e : h - suc (h - suc r) ≡ r = omega arith in
       let m : rowWorth w g ((h - suc (h - suc r)) * w) (readRow w w r wanted) ≡ rowWorth w g (r * w) (rowOf w h wanted (suc r)) =
       ap₂ (λ (x c : ℕ). rowWorth w g (x * w) c) e (row-same wanted (suc r) l) in
-      worth-more (setupOf rule w h g) (readRow w w) wanted r ∙ omega (arith, m, worth-score B r (omega arith), score-more B g r l)
+      worth-more (setupOf jobKind rule w h g) (readRow w w) wanted r ∙ omega (arith, m, worth-score B r (omega arith), score-more B g r l)
 
-  carried-score : (wanted : List ℕ) (k x : ℕ) → (0 < k → Optimal rule w h g wanted) → k ≤ h → x ≡ worthSoFar (setupOf rule w h g) (readRow w w) wanted k → x ≡ score w k g wanted
-  carried-score wanted zero x o l e = e ∙ worth-none (setupOf rule w h g) (readRow w w) wanted ∙ sym (score-none w g wanted)
+  carried-score : (wanted : List ℕ) (k x : ℕ) → (0 < k → Optimal rule w h g wanted) → k ≤ h → x ≡ worthSoFar (setupOf jobKind rule w h g) (readRow w w) wanted k → x ≡ score w k g wanted
+  carried-score wanted zero x o l e = e ∙ worth-none (setupOf jobKind rule w h g) (readRow w w) wanted ∙ sym (score-none w g wanted)
   carried-score wanted (suc k) x o l e = e ∙ worth-score (o (omega arith) .solution .grid) (suc k) l
 
-  pub progress : (wanted : List ℕ) (before now : State) → Of rule w h (now .job) → jobFits (now .job) ≡ true
-      → (0 < rowsIn (gridKind rule w h g) (now .job) → Optimal rule w h g wanted)
-      → Places.Filled (kind rule w h g) (plan h (2 ^ w * 2 ^ w)) (now .job .units) (before .table) (now .table)
-      → Written w (rowsIn (gridKind rule w h g) (now .job)) wanted (before .board) (now .board)
-      → Carried (setupOf rule w h g) (readRow w w) (rowsIn (gridKind rule w h g) (now .job)) wanted (aboveOf (now .job .stage)) (lastOf (now .job .stage)) (liveOf (now .job .stage))
-      → Progress rule w h g wanted before now
+  pub progress : (wanted : List ℕ) (before now : State) → Of jobKind rule w h (now .job) → jobFits (now .job) ≡ true
+      → (0 < rowsIn (gridKind jobKind rule w h g) (now .job) → Optimal rule w h g wanted)
+      → Places.Filled (kind rule w h g) (planOf jobKind w h) (now .job .units) (before .table) (now .table)
+      → Written w (rowsIn (gridKind jobKind rule w h g) (now .job)) wanted (before .board) (now .board)
+      → Carried (setupOf jobKind rule w h g) (readRow w w) (rowsIn (gridKind jobKind rule w h g) (now .job)) wanted (aboveOf (now .job .stage)) (lastOf (now .job .stage)) (liveOf (now .job .stage))
+      → Progress jobKind rule w h g wanted before now
   progress wanted before now O f o F E C =
-      let s = now .job .stage in
-      let k = rowsIn (gridKind rule w h g) (now .job) in record {
-        ruled = O .ruled;
-        width = O .wide;
-        height = O .tall;
-        units = units-split w h (now .job .units) (markOf s) (rw (O .wide, O .tall) at (numbers-at (numbersOf (now .job)) (fits-numbers (now .job) f) .are .units));
-        filled = table-filled rule w h g (now .job .units) (before .table) (now .table) F;
+      let j = now .job in
+      let s = j .stage in
+      let k = rowsIn (gridKind jobKind rule w h g) j in
+      let high = z .size .some-row in
+      let U : Units (shapeOf jobKind w h) (j .units) (markOf s) = rw (O .kept, O .wide, O .tall) at (numbers-at (j .kind) (numbersOf j) (fits-numbers j f) .are .units) in record {
+        of = O;
+        units = units-are jobKind w h (j .units) (markOf s) high U;
+        filled = table-after jobKind rule w h g (j .units) high (units-few jobKind w h (j .units) (markOf s) high U) (before .table) (now .table) F;
         written = E;
         above = C .above ∙ row-same wanted (k - 1) (omega (arith, C .few));
         last = C .last ∙ row-same wanted k (C .few);

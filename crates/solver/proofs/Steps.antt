@@ -59,23 +59,23 @@ module _ (j : Job) (g t β : List ℕ) where
   now = lentState j t β
 
   abbrev grids : Setup ℕ (List ℕ)
-  grids = setupOf (j .rule) w h g
+  grids = setupOf (j .kind) (j .rule) w h g
 
   abbrev kinds : Kind ℕ
   kinds = kindOf (nextUnder (j .rule)) w h g
 
-  unit-fill : (k source target i : ℕ) → markOf (j .stage) ≡ 0 → shapeOf w h .plan (j .units) ≡ fill k source target i
+  unit-fill : (k source target i : ℕ) → markOf (j .stage) ≡ 0 → shapeOf (j .kind) w h .plan (j .units) ≡ fill k source target i
       → unitOf g now ≡ next (lentState (jobWith j (afterEntry (here j))) (fillEntry kinds k source target i t) β)
   unfolding unitOf unitBy
   unit-fill k source target i m p = ap (λ (o : Task). markStep grids (markOf (j .stage)) o now) p ∙ ap (λ (n : ℕ). markStep grids n (fill k source target i) now) m
 
-  unit-choose : (r source : ℕ) → markOf (j .stage) ≡ 0 → shapeOf w h .plan (j .units) ≡ row r source
+  unit-choose : (r source : ℕ) → markOf (j .stage) ≡ 0 → shapeOf (j .kind) w h .plan (j .units) ≡ row r source
       → unitOf g now
       ≡ rowStep grids r now (choose kinds (h - suc r) (aboveOf (j .stage)) (lastOf (j .stage)) (reads kinds t source (lastOf (j .stage))))
   unfolding unitOf unitBy
   unit-choose r source m p = ap (λ (o : Task). markStep grids (markOf (j .stage)) o now) p ∙ ap (λ (n : ℕ). markStep grids n (row r source) now) m
 
-  pub moves-fill : {k source target i : ℕ} → jobFits j ≡ true → markOf (j .stage) ≡ 0 → shapeOf w h .plan (j .units) ≡ fill k source target i
+  pub moves-fill : {k source target i : ℕ} → jobFits j ≡ true → markOf (j .stage) ≡ 0 → shapeOf (j .kind) w h .plan (j .units) ≡ fill k source target i
       → (j′ : Job) → j′ ≡ afterUnit j Chosen.Nothing → (t′ : List ℕ) → t′ ≡ fillEntry kinds k source target i t → Moves j g t β (Stepped.Next j′) t′ β
   moves-fill {k} {source} {target} {i} f m p j′ q t′ e = moved-on (rw (q, after-entry j f m p Chosen.Nothing, e) (sym (unit-fill k source target i m p)))
 
@@ -95,9 +95,9 @@ module _ (j : Job) (r source : ℕ) (g t β : List ℕ) (C : Chooses j r source 
       choose (kindOf (nextUnder (j .rule)) (j .width) (j .height) g) (j .height - suc r) (aboveOf (j .stage)) (lastOf (j .stage))
       (reads (kindOf (nextUnder (j .rule)) (j .width) (j .height) g) t source (lastOf (j .stage)))
 
-  comes : (o : Choice ℕ) → choice ≡ o → rowStep (setupOf (j .rule) (j .width) (j .height) g) r (lentState j t β) o ≡ unitOf g (lentState j t β)
+  comes : (o : Choice ℕ) → choice ≡ o → rowStep (setupOf (j .kind) (j .rule) (j .width) (j .height) g) r (lentState j t β) o ≡ unitOf g (lentState j t β)
   comes o f =
-      sym (unit-choose j g t β r source (C .running) (C .task) ∙ ap (rowStep (setupOf (j .rule) (j .width) (j .height) g) r (lentState j t β)) f)
+      sym (unit-choose j g t β r source (C .running) (C .task) ∙ ap (rowStep (setupOf (j .kind) (j .rule) (j .width) (j .height) g) r (lentState j t β)) f)
 
   pub moves-row : (c n : ℕ) → choice ≡ chosen c n → (j′ : Job) → j′ ≡ afterUnit j (Chosen.Row c (rowWorth (j .width) g (r * j .width) c))
       → Moves j g t β (Stepped.Next j′) t (putRow (j .width) (j .width) r c β)
@@ -114,18 +114,18 @@ module _ (j : Job) (r source : ℕ) (g t β : List ℕ) (C : Chooses j r source 
 
   pub moves-none : r ≡ 0 → choice ≡ nothing → (j′ : Job) → j′ ≡ afterUnit j Chosen.Nothing → Moves j g t β (Stepped.Next j′) t β
   moves-none z f j′ q =
-      let p : shapeOf (j .width) (j .height) .plan (j .units) ≡ row 0 source = C .task ∙ ap (λ (k : ℕ). row k source) z in
+      let p : shapeOf (j .kind) (j .width) (j .height) .plan (j .units) ≡ row 0 source = C .task ∙ ap (λ (k : ℕ). row k source) z in
       moved-on (rw (q, after-none j (C .lent .taken) (C .running) p) (go r z ∙ comes nothing f))
     where
       go : (k : ℕ) → k ≡ 0
-          → next (lentState (jobWith j (afterNone (here j))) t β) ≡ rowStep (setupOf (j .rule) (j .width) (j .height) g) k (lentState j t β) nothing
+          → next (lentState (jobWith j (afterNone (here j))) t β) ≡ rowStep (setupOf (j .kind) (j .rule) (j .width) (j .height) g) k (lentState j t β) nothing
       go zero p = refl
       go (suc k) p = absurd (omega arith)
 
   pub moves-spoiled : (r ≡ 0 → ⊥) → choice ≡ nothing → Moves j g t β Stepped.Spoiled t β
   moves-spoiled n f = record { step = go r n ∙ comes nothing f; ended = spoiled-not-ended; spoiled = λ x. (refl, refl) }
     where
-      go : (k : ℕ) → (k ≡ 0 → ⊥) → spoiled ≡ rowStep (setupOf (j .rule) (j .width) (j .height) g) k (lentState j t β) nothing
+      go : (k : ℕ) → (k ≡ 0 → ⊥) → spoiled ≡ rowStep (setupOf (j .kind) (j .rule) (j .width) (j .height) g) k (lentState j t β) nothing
       go zero p = absurd (p refl)
       go (suc k) p = refl
 

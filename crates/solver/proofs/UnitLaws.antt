@@ -4,42 +4,45 @@
 use mathlib.Core.Path.{_≡_, refl, _∙_, subst}
 use mathlib.Core.Bool.{true}
 use mathlib.Core.List.{List}
-use Prim.Native.Nat.{ℕ, zero, suc, _+_, _*_, _-_, _^_, _≤_, _<_}
+use Prim.Native.Nat.{ℕ, zero, suc, _+_, _-_, _^_, _≤_, _<_}
 use native.Mathlib.Omega.{arith}
 use lib.ListN.{length, length-set}
 use Rattle.elimination.specs.Candidates.{Choice, nothing, chosen}
 use Rattle.rule.specs.declared.Rule.{Rule}
-use Rattle.job.specs.Jobs.{shapeOf, aboveOf, lastOf, markOf, jobFits}
+use Rattle.job.specs.Jobs.{planOf, shapeOf, aboveOf, lastOf, markOf, jobFits}
 use Rattle.rule.specs.Rule.{nextUnder}
 use Rattle.elimination.specs.Kind.{choose}
 use Rattle.elimination.specs.Table.{reads, fillEntry}
 use Rattle.score_table.specs.ScoreTable.{kindOf}
 use Rattle.elimination.specs.Task.{Task, fill, row}
-use Rattle.elimination.specs.FillThenChoose.{plan}
+use Rattle.elimination.proofs.Rounds.{fill-at, row-at}
+use Rattle.board.proofs.Powers.{four-pos}
 use Rattle.service.specs.Units.{rowStep, taskStep, markStep, unitBy}
 use Rattle.service.specs.Service.{next, spoiled}
 use Rattle.solver.specs.Units.{State, Step, setupOf, unitOf}
 use Rattle.solver.specs.Inner.{Lent, Chooses}
 use Rattle.score_table.specs.Inner.{Memory, EntryRead}
+use Rattle.job.specs.declared.Kind.{Kind}
 use Rattle.job.specs.declared.Job.{Job}
-use Rattle.job.proofs.Shapes.{board-long, fill-at, row-at, layer-in}
+use Rattle.job.proofs.Shapes.{shape-rounds}
 use Rattle.job.proofs.Fits.{fits-frame}
 use Rattle.job.proofs.Next.{fits-until}
 use Rattle.solver.proofs.Optimum.{rows-stand}
 use Rattle.solver.proofs.Machine.{follows}
 
 -- ---- the job
--- a next job that fits, of the same rule and grid
+-- a next job that fits, of the same kind, rule and grid
 pub record Fit (j j′ : Job) : Type 0 where
   pub taken : jobFits j′ ≡ true
+  pub kind : j′ .kind ≡ j .kind
   pub rule : j′ .rule ≡ j .rule
   pub width : j′ .width ≡ j .width
   pub height : j′ .height ≡ j .height
 
 pub unit-fits : (g : List ℕ) (s s′ : State) → jobFits (s .job) ≡ true → unitOf g s ≡ next s′ → Fit (s .job) (s′ .job)
 unit-fits g s s′ f e =
-    let H = follows (fits-frame (s .job) f) g .moves s s′ (record { of = record { ruled = refl; wide = refl; tall = refl }; taken = f }) e .0 in
-    record { taken = H .taken; rule = H .of .ruled; width = H .of .wide; height = H .of .tall }
+    let H = follows (s .job .kind) (fits-frame (s .job) f) g .moves s s′ (record { of = record { kept = refl; ruled = refl; wide = refl; tall = refl }; taken = f }) e .0 in
+    record { taken = H .taken; kind = H .of .kept; rule = H .of .ruled; width = H .of .wide; height = H .of .tall }
 
 -- ---- the memory
 record Lengths (t β t′ β′ : List ℕ) : Type 0 where
@@ -50,13 +53,13 @@ abbrev StepLengths : List ℕ → List ℕ → Step → Type 0
 StepLengths t β (next s′) = Lengths t β (s′ .table) (s′ .board)
 StepLengths t β spoiled = Unit {0}
 
-module _ (rule : Rule) (w h : ℕ) (g : List ℕ) (s : State) where
-  row-lengths : (r : ℕ) (o : Choice ℕ) → StepLengths (s .table) (s .board) (rowStep (setupOf rule w h g) r s o)
+module _ (kind : Kind) (rule : Rule) (w h : ℕ) (g : List ℕ) (s : State) where
+  row-lengths : (r : ℕ) (o : Choice ℕ) → StepLengths (s .table) (s .board) (rowStep (setupOf kind rule w h g) r s o)
   row-lengths r (chosen c n) = record { table = refl; board = rows-stand w .only r c (s .board) .size }
   row-lengths zero nothing = record { table = refl; board = refl }
   row-lengths (suc r) nothing = tt
 
-  task-lengths : (o : Task) → StepLengths (s .table) (s .board) (taskStep (setupOf rule w h g) o s)
+  task-lengths : (o : Task) → StepLengths (s .table) (s .board) (taskStep (setupOf kind rule w h g) o s)
   unfolding fillEntry
   task-lengths (fill k source target j) = record { table = length-set (s .table) (target + j) _; board = refl }
   task-lengths (row r source) =
@@ -64,7 +67,7 @@ module _ (rule : Rule) (w h : ℕ) (g : List ℕ) (s : State) where
       (choose (kindOf (nextUnder rule) w h g) (h - suc r) (aboveOf (s .job .stage)) (lastOf (s .job .stage))
       (reads (kindOf (nextUnder rule) w h g) (s .table) source (lastOf (s .job .stage))))
 
-  mark-lengths : (m : ℕ) (o : Task) → StepLengths (s .table) (s .board) (markStep (setupOf rule w h g) m o s)
+  mark-lengths : (m : ℕ) (o : Task) → StepLengths (s .table) (s .board) (markStep (setupOf kind rule w h g) m o s)
   mark-lengths zero o = task-lengths o
   mark-lengths (suc m) o = record { table = refl; board = refl }
 
@@ -72,7 +75,7 @@ unit-lengths : (g : List ℕ) (s s′ : State) → unitOf g s ≡ next s′ → 
 unfolding unitOf unitBy
 unit-lengths g s s′ e =
     subst (StepLengths (s .table) (s .board)) e
-    (mark-lengths (s .job .rule) (s .job .width) (s .job .height) g s (markOf (s .job .stage)) (plan (s .job .height) (2 ^ s .job .width * 2 ^ s .job .width) (s .job .units)))
+    (mark-lengths (s .job .kind) (s .job .rule) (s .job .width) (s .job .height) g s (markOf (s .job .stage)) (planOf (s .job .kind) (s .job .width) (s .job .height) (s .job .units)))
 
 -- ---- what the checks have shown holds again
 pub unit-lent : (g : List ℕ) (s s′ : State) → Lent (s .job) g (s .table) (s .board) → unitOf g s ≡ next s′ → Lent (s′ .job) g (s′ .table) (s′ .board)
@@ -82,7 +85,7 @@ unit-lent g s s′ L e =
       taken = F .taken;
       marks = rw (F .width, F .height) (L .marks);
       cells = rw (F .width, F .height) (N .board ∙ L .cells);
-      entries = rw (F .width, F .height, N .table) (L .entries);
+      entries = rw (F .kind, F .width, F .height, N .table) (L .entries);
     }
 
 -- ---- what they have shown, by the job's task
@@ -91,10 +94,11 @@ lent-memory {j} L =
     let z = fits-frame j (L .taken) .size in record { narrow = z .narrow; low = z .low; marks = L .marks }
 
 -- where an entry is to be filled
-pub lent-read : {j : Job} {g t β : List ℕ} {k source target i : ℕ} → Lent j g t β → shapeOf (j .width) (j .height) .plan (j .units) ≡ fill k source target i
+pub lent-read : {j : Job} {g t β : List ℕ} {k source target i : ℕ} → Lent j g t β → markOf (j .stage) ≡ 0
+    → shapeOf (j .kind) (j .width) (j .height) .plan (j .units) ≡ fill k source target i
     → EntryRead (j .width) (j .height) k source i g t × (target + 4 ^ j .width ≤ length t)
-lent-read {j} {g} {t} {β} {k} {source} {target} {i} L p =
-    let F = fill-at (j .width) (j .height) (j .units) k source target i p in (
+lent-read {j} {g} {t} {β} {k} {source} {target} {i} L m p =
+    let F = fill-at (shape-rounds (j .width) (j .height) (j .kind)) (four-pos (j .width)) (fits-until j (L .taken) m) p in (
       record { memory = lent-memory L; after = F .after; inside = F .inside; layer = λ z. omega (arith, F .reads z, L .entries) },
       omega (arith, F .writes, L .entries),
     )
@@ -106,7 +110,5 @@ pub record RowIn (j : Job) (r source : ℕ) (t : List ℕ) : Type 0 where
 
 pub row-in : {j : Job} {r source : ℕ} {g t β : List ℕ} → Chooses j r source g t β → RowIn j r source t
 row-in {j} {r} {source} C =
-    let R = row-at (j .width) (j .height) (j .units) r source (C .task) in
-    let u = fits-until j (C .lent .taken) (C .running) in
-    let l : r < j .height = omega (arith, R .rows, R .from, u, board-long (j .width) (j .height)) in
-    record { inside = l; layer = omega (arith, R .layer, layer-in (j .width) (j .height) r l, C .lent .entries) }
+    let R = row-at (shape-rounds (j .width) (j .height) (j .kind)) (fits-until j (C .lent .taken) (C .running)) (C .task) in
+    record { inside = R .one; layer = omega (arith, R .layer, C .lent .entries) }

@@ -1,7 +1,7 @@
 -- What is proved of the rules over the rows of a grid: an ending is a solution, the rows that are chosen are the wanted board, an entry is what
 -- document 01, "The score table", says it is, the wanted board is the best by all live cells too, a grid turned away for an edge three has no still
--- board that keeps the givens, and a unit changes no byte of the board but those of the row that it chooses. The third demand is stated in `Demand`,
--- and the round trip in `Calls` of `job`.
+-- board that keeps the givens, a unit changes no byte of the board but those of the row that it chooses, and both kinds of job come to the same
+-- board. The third demand is stated in `Demand`, and the round trip in `Calls` of `job`.
 -- Assumes nothing.
 use mathlib.Core.Path.{_≡_}
 use mathlib.Core.Bool.{cond}
@@ -10,7 +10,7 @@ use mathlib.Core.List.{List, [], _∷_}
 use Prim.Native.Nat.{ℕ, zero, suc, _+_, _*_, _-_, _^_, _≤_, _<_}
 use lib.Dec.{eqb}
 use lib.ListN.{length, getD}
-use Rattle.board.specs.Answers.{passed, refuses}
+use Rattle.board.specs.Answers.{Answer, passed, refuses}
 use Rattle.board.specs.Boards.{Sized, Board}
 use Rattle.board.specs.Sums.{total}
 use Rattle.edges.specs.Edges.{edgeCheck}
@@ -23,11 +23,17 @@ use Rattle.solver.specs.Grid.{KeepsGivens, Solution, BestBy, Optimal, sc
 use Rattle.score_table.specs.Rows.{rowWorth}
 use Rattle.score_table.specs.ScoreTable.{absent, mostLive, kindOf, readsOf}
 use Rattle.job.specs.Jobs.{openRule}
+use Rattle.job.specs.Calls.{Opens}
+use Rattle.job.specs.declared.Kind.{Kind}
 use Rattle.job.specs.declared.Job.{Job}
-use Rattle.service.specs.Service.{next, workCheck, workOf}
+use Rattle.job.specs.declared.JobResult.{JobResult}
+use Rattle.service.specs.Service.{next, infeasible, workCheck, workOf}
+use Rattle.service.specs.Demand.{Call, run, Each, Fair, summed, Aim, Served}
+use Rattle.service.specs.JobKinds.{aimOf}
 use Rattle.service.specs.RowUnits.{OnBoard}
 use Rattle.solver.specs.Units.{State, unitOf, grid}
 use Rattle.solver.specs.Demand.{gridKind}
+use Rattle.solver.specs.Inner.{lentState}
 
 -- ---- boards and endings
 -- the k rows of a board that follow row r, as numbers
@@ -102,7 +108,7 @@ SameBest = (rule : Rule) (w h : ℕ) (givens board : List ℕ) → Optimal rule 
 -- call turns away by 14 has none
 pub record EdgeThreeHasNoBoard : Type 0 where
   pub passes : (rule : Rule) (w h : ℕ) (givens still : List ℕ) → Solution rule w h givens still → edgeCheck rule w h givens ≡ passed
-  pub opening : (rule : Rule) (w h : ℕ) (givens values : List ℕ) → openRule rule w h givens ≡ refuses 14 values
+  pub opening : (kind : Kind) (rule : Rule) (w h : ℕ) (givens values : List ℕ) → openRule kind rule w h givens ≡ refuses 14 values
       → (still : List ℕ) → Solution rule w h givens still → ⊥
   pub working : (j : Job) (givens table board : List ℕ) (allowance : ℕ) (values : List ℕ)
       → workOf grid j givens table board allowance .answer ≡ refuses 14 values
@@ -114,4 +120,22 @@ pub record EdgeThreeHasNoBoard : Type 0 where
 abbrev pub RowsToBoard : Type 0
 RowsToBoard =
     (givens : List ℕ) (s s′ : State) → workCheck grid (s .job) givens (s .table) (s .board) ≡ passed → unitOf givens s ≡ next s′
-    → OnBoard (gridKind (s .job .rule) (s .job .width) (s .job .height) givens) (s .job .stage) s s′
+    → OnBoard (gridKind (s .job .kind) (s .job .rule) (s .job .width) (s .job .height) givens) (s .job .stage) s s′
+
+-- ---- the same board from either kind
+-- What two lists of calls come to, from two jobs of one grid: to the same board and the same last answer, or both to none. Where each list reaches its
+-- job's length, its board is that one.
+pub data Alike (A A′ : Aim (List ℕ)) (calls calls′ : List (Call grid)) (s s′ : State) : Type 0 where
+  solved : (best : List ℕ) (final : Answer) → A .Wanted best final → Served grid A (A .boardLength) final best calls s → Served grid A′ (A′ .boardLength) final best calls′ s′
+      → (A .boardLength ≤ summed grid calls s → A′ .boardLength ≤ summed grid calls′ s′ → run grid calls s .board ≡ run grid calls′ s′ .board) → Alike A A′ calls calls′ s s′
+  unsolvable : ((board : List ℕ) → A .Solution board → ⊥) → Served grid A (A .noneLength) infeasible (s .board) calls s
+      → Served grid A′ (A′ .noneLength) infeasible (s′ .board) calls′ s′ → Alike A A′ calls calls′ s s′
+
+-- Req 05, of a grid opened as an ordinary job and as one of two layers, over any tables and boards, and of every two lists of calls of the third demand
+abbrev pub SameBoard : Type 0
+SameBoard =
+    (rule : Rule) (w h : ℕ) (givens : List ℕ) (table board table′ board′ : List ℕ) (r r′ : JobResult) (j j′ : Job)
+    → Opens Kind.Ordinary rule w h givens r → r ≡ JobResult.Ready j → Opens Kind.TwoLayers rule w h givens r′ → r′ ≡ JobResult.Ready j′
+    → let s = lentState j table board in let s′ = lentState j′ table′ board′ in
+    (calls calls′ : List (Call grid)) → Each grid (Fair grid givens) calls s → Each grid (Fair grid givens) calls′ s′
+    → Alike (aimOf (gridKind Kind.Ordinary rule w h givens)) (aimOf (gridKind Kind.TwoLayers rule w h givens)) calls calls′ s s′

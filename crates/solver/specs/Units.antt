@@ -3,9 +3,10 @@
 use mathlib.Core.List.{List}
 use Prim.Native.Nat.{ℕ}
 use Rattle.elimination.specs.Job.{Setup}
-use Rattle.elimination.specs.FillThenChoose.{fillThenChoose}
 use Rattle.rule.specs.Rule.{nextUnder}
 use Rattle.rule.specs.declared.Rule.{Rule}
+use Rattle.job.specs.Jobs.{planOf}
+use Rattle.job.specs.declared.Kind.{Kind}
 use Rattle.service.specs.Service.{Service}
 use Rattle.service.specs.Service as Shared
 use Rattle.service.specs.Units.{unitBy}
@@ -20,14 +21,14 @@ State = Shared.State (List ℕ)
 abbrev pub Step : Type 0
 Step = Shared.Step (List ℕ)
 
--- a grid's job: the whole table is filled by the rules of a score table, then the rows are chosen, and each is written into its part of the board; a
--- row's number has a binary digit for each of its cells
-abbrev pub setupOf : Rule → ℕ → ℕ → List ℕ → Setup ℕ (List ℕ)
-setupOf rule w h givens = fillThenChoose (kindOf (nextUnder rule) w h givens) h (putRow w w)
+-- a grid's job: by the plan of its kind entries are filled by the rules of a score table and rows are chosen, and each is written into its part of the
+-- board; a row's number has a binary digit for each of its cells
+abbrev pub setupOf : Kind → Rule → ℕ → ℕ → List ℕ → Setup ℕ (List ℕ)
+setupOf kind rule w h givens = record { kind = kindOf (nextUnder rule) w h givens; height = h; write = putRow w w; plan = planOf kind w h }
 
 -- one unit
 unfoldable pub unitOf : List ℕ → State → Step
-unitOf givens s = unitBy (setupOf (s .job .rule) (s .job .width) (s .job .height) givens) s
+unitOf givens s = unitBy (setupOf (s .job .kind) (s .job .rule) (s .job .width) (s .job .height) givens) s
 
 -- ---- the service of a grid: jobs that are lent givens, a table and a board
 abbrev pub grid : Service

@@ -26,6 +26,7 @@ pub fn check_work(job: Job, givens: &[u8], table: &[u16], board: &[u8]) -> Check
     if let Paused::Refused(r) = job.pause() {
         return Check::Refused(r);
     }
+    let kind = job.kind;
     let w = job.width;
     let h = job.height;
     if let Check::Refused(r) = job::check_read(job.rule, w, h, givens) {
@@ -34,7 +35,7 @@ pub fn check_work(job: Job, givens: &[u8], table: &[u16], board: &[u8]) -> Check
     if !board::has_length(board, w, h) {
         return Check::Refused(Refusal::BoardLength);
     }
-    board::check_table(w, h, table)
+    board::check_table(w, kind.layers(h), table)
 }
 
 // The answer for a job in a stage.

@@ -9,6 +9,7 @@ use board::Refusal;
 use job::Checkpoint;
 use job::Job;
 use job::JobResult;
+use job::Kind;
 use job::Paused;
 use job::Stage;
 use rule::Rule;
@@ -26,21 +27,27 @@ pub struct Lent {
 
 // What a call of a size is lent; a table longer than it needs.
 pub fn exact(s: Size) -> Lent {
+    with_spare(s, 8)
+}
+
+// The same with so many entries to spare.
+pub fn with_spare(s: Size, spare: usize) -> Lent {
     Lent {
         givens: s.cells,
-        table: num::wrapping_add_usize(s.entries, 8),
+        table: num::wrapping_add_usize(s.room, spare),
         board: s.cells,
     }
 }
 
-pub fn open(rule: Rule, w: usize, h: usize, givens: &[u8], n: usize) -> JobResult {
-    let g = least(n, givens.len());
-    job::open(rule, w, h, &givens[..g])
+pub fn open(rule: Rule, s: Size, givens: &[u8]) -> JobResult {
+    let kind = s.kind;
+    let g = least(s.cells, givens.len());
+    job::open(kind, rule, s.w, s.h, &givens[..g])
 }
 
 // A grid's job, or none where opening is refused.
 pub fn opened(rule: Rule, s: Size, givens: &[u8]) -> Job {
-    match open(rule, s.w, s.h, givens, s.cells) {
+    match open(rule, s, givens) {
         JobResult::Ready(job) => job,
         JobResult::Refused(_) => no_job(),
     }
@@ -48,12 +55,14 @@ pub fn opened(rule: Rule, s: Size, givens: &[u8]) -> Job {
 
 // A job of no size, which no call takes.
 fn no_job() -> Job {
-    fresh(rule::conway(), sizes::sized(0, 0))
+    fresh(rule::conway(), sizes::sized(Kind::Ordinary, 0, 0))
 }
 
 // A job at unit 0.
 pub fn fresh(rule: Rule, s: Size) -> Job {
+    let kind = s.kind;
     Job {
+        kind,
         rule,
         width: s.w,
         height: s.h,
@@ -117,13 +126,41 @@ pub fn resumed(job: Job) -> Job {
     let Paused::Numbers(numbers) = job.pause() else {
         return no_job();
     };
-    let JobResult::Ready(next) = numbers.resume() else {
+    let kind = job.kind;
+    let JobResult::Ready(next) = numbers.resume(kind) else {
         return no_job();
     };
     next
 }
 
-// The nine numbers of a job.
+// Whether the numbers that pausing gives are refused when they are resumed as the other kind.
+pub fn is_other_refused(job: Job) -> bool {
+    let Paused::Numbers(numbers) = job.pause() else {
+        return false;
+    };
+    let kind = job.kind;
+    match numbers.resume(other(kind)) {
+        JobResult::Ready(_) => false,
+        JobResult::Refused(r) => r.number() == 7,
+    }
+}
+
+pub fn other(kind: Kind) -> Kind {
+    match kind {
+        Kind::Ordinary => Kind::TwoLayers,
+        Kind::TwoLayers => Kind::Ordinary,
+    }
+}
+
+// The number of a kind, by the documents.
+pub fn number_of(kind: Kind) -> usize {
+    match kind {
+        Kind::Ordinary => 0,
+        Kind::TwoLayers => 1,
+    }
+}
+
+// The ten numbers of a job.
 pub fn numbers_of(job: Job) -> Checkpoint {
     let stage = job.stage;
     match stage {
@@ -135,6 +172,7 @@ pub fn numbers_of(job: Job) -> Checkpoint {
 }
 
 fn with_stage(job: Job, above: usize, last: usize, live: usize, mark: usize) -> Checkpoint {
+    let kind = job.kind;
     let rule = job.rule;
     Checkpoint {
         width: job.width,
@@ -146,6 +184,7 @@ fn with_stage(job: Job, above: usize, last: usize, live: usize, mark: usize) -> 
         mark,
         births: rule.births,
         survivals: rule.survivals,
+        kind: number_of(kind),
     }
 }
 
@@ -153,10 +192,10 @@ pub fn same_numbers(a: Checkpoint, b: Checkpoint) -> bool {
     let sizes = a.width == b.width && a.height == b.height && a.units == b.units;
     let rows = a.above == b.above && a.last == b.last && a.live == b.live;
     let rules = a.births == b.births && a.survivals == b.survivals;
-    sizes && rows && rules && a.mark == b.mark
+    sizes && rows && rules && a.mark == b.mark && a.kind == b.kind
 }
 
-// Filling and choosing row 1 have the same numbers but the units.
+// Filling and choosing have the same numbers but the units.
 pub fn same_job(a: Job, b: Job) -> bool {
     let s = a.stage;
     let t = b.stage;
@@ -178,7 +217,7 @@ fn is_filling(stage: Stage) -> bool {
 pub fn is_unaltered(job: Job, m: Memory, r: After) -> bool {
     let next = r.job;
     let left = r.memory;
-    same_job(job, next) && memory::same(m, left, memory::ENTRIES, memory::CELLS)
+    same_job(job, next) && memory::same(m, left)
 }
 
 pub fn is_unfinished(status: Status) -> bool {
@@ -186,6 +225,34 @@ pub fn is_unfinished(status: Status) -> bool {
         Status::Unfinished => true,
         Status::Finished(_) => false,
         Status::Infeasible => false,
+        Status::Refused(_) => false,
+    }
+}
+
+// Whether two working calls ended alike: both with a score, the same, or both with none.
+pub fn same_end(a: Status, b: Status) -> bool {
+    match a {
+        Status::Unfinished => false,
+        Status::Finished(score) => is_score(b, score),
+        Status::Infeasible => is_none(b),
+        Status::Refused(_) => false,
+    }
+}
+
+fn is_score(status: Status, n: usize) -> bool {
+    match status {
+        Status::Unfinished => false,
+        Status::Finished(score) => score == n,
+        Status::Infeasible => false,
+        Status::Refused(_) => false,
+    }
+}
+
+fn is_none(status: Status) -> bool {
+    match status {
+        Status::Unfinished => false,
+        Status::Finished(_) => false,
+        Status::Infeasible => true,
         Status::Refused(_) => false,
     }
 }
@@ -223,7 +290,7 @@ pub fn is_refused_by(
 
 // Whether opening is refused, by a number and a place.
 pub fn is_opening_refused(rule: Rule, s: Size, givens: &[u8], number: u8, place: usize) -> bool {
-    match open(rule, s.w, s.h, givens, s.cells) {
+    match open(rule, s, givens) {
         JobResult::Ready(_) => false,
         JobResult::Refused(r) => is_refusal(r, number, place),
     }

@@ -8,6 +8,7 @@ use crate::sizes;
 use crate::sizes::Size;
 use job::Job;
 use job::JobResult;
+use job::Kind;
 use rule::Rule;
 use std::num;
 
@@ -81,8 +82,8 @@ pub fn try_lines(name: &[u8], group: usize) {
     let mut t = Tally { found: 0, wrong: 0 };
     for number in 0..19683 {
         let rule = rules::of_group(group, number);
-        t = try_number(rule, sizes::sized(1, 9), number, t);
-        t = try_number(rule, sizes::sized(9, 1), number, t);
+        t = try_number(rule, 1, 9, number, t);
+        t = try_number(rule, 9, 1, number, t);
     }
     print(name, 39366, t);
 }
@@ -94,7 +95,8 @@ pub fn try_random(name: &[u8], group: usize) {
         let number = random::below(43046721, k, 700000);
         t = try_number(
             rules::of_group(group, k),
-            sizes::sized(k % 4 + 1, k / 4 % 4 + 1),
+            k % 4 + 1,
+            k / 4 % 4 + 1,
             number,
             t,
         );
@@ -105,10 +107,17 @@ pub fn try_random(name: &[u8], group: usize) {
 fn print(name: &[u8], grids: usize, t: Tally) {
     report::line(name, grids);
     report::line(b"  with an edge three: ", t.found);
+    report::line(
+        b"  jobs of both kinds: ",
+        num::wrapping_add_usize(grids, grids),
+    );
     report::line(b"  differences from runs of live marks: ", t.wrong);
 }
 
-fn try_number(rule: Rule, s: Size, number: usize, t: Tally) -> Tally {
+// A grid, opened and worked on by both kinds.
+fn try_number(rule: Rule, w: usize, h: usize, number: usize, t: Tally) -> Tally {
+    let s = sizes::sized(Kind::Ordinary, w, h);
+    let two = sizes::sized(Kind::TwoLayers, w, h);
     let mut givens = [0u8; memory::CELLS];
     marks::write_digits(&mut givens, s.cells, number);
     let place = first(rule, s, &givens);
@@ -116,7 +125,7 @@ fn try_number(rule: Rule, s: Size, number: usize, t: Tally) -> Tally {
     if place < s.cells {
         next.found = num::wrapping_add_usize(t.found, 1);
     }
-    if !is_answered(rule, s, place, givens) {
+    if !is_answered(rule, s, place, givens) || !is_answered(rule, two, place, givens) {
         next.wrong = num::wrapping_add_usize(t.wrong, marks::difference(b"an edge three"));
         marks::print_grid(rule, s, givens);
     }
@@ -128,7 +137,7 @@ fn is_answered(rule: Rule, s: Size, place: usize, givens: [u8; memory::CELLS]) -
     if place < s.cells {
         return is_turned_away(rule, s, place, givens);
     }
-    match calls::open(rule, s.w, s.h, &givens, s.cells) {
+    match calls::open(rule, s, &givens) {
         JobResult::Ready(job) => is_worked_on(s, job, givens),
         JobResult::Refused(_) => false,
     }
@@ -137,7 +146,7 @@ fn is_answered(rule: Rule, s: Size, place: usize, givens: [u8; memory::CELLS]) -
 fn is_worked_on(s: Size, job: Job, givens: [u8; memory::CELLS]) -> bool {
     let r = calls::work(job, calls::exact(s), &givens, memory::spoiled(0), 0);
     let status = r.status;
-    if memory::ENTRIES < s.entries {
+    if memory::ENTRIES < s.room {
         return calls::is_refused(status, 6, 0);
     }
     calls::is_unfinished(status)

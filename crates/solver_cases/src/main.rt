@@ -1,9 +1,10 @@
-// Tries the solver: every small grid against plain enumeration, the same in random pieces, other rules, edge threes, and forged
-// numbers. Prints what was tried.
+// Tries the solver by both kinds of job: every small grid against plain enumeration, the same in random pieces, other rules, edge threes,
+// forged numbers, and lengths at the limits. Prints what was tried.
 mod calls;
 mod edges;
 mod forged;
 mod grids;
+mod limits;
 mod marks;
 mod memory;
 mod numbers;
@@ -14,6 +15,8 @@ mod rules;
 mod sizes;
 mod unit;
 
+use job::Kind;
+
 fn main() {
     grids::try_all();
     grids::try_rules();
@@ -21,7 +24,14 @@ fn main() {
     edges::try_lines(b"the same under pseudo-random rules: ", 5);
     edges::try_random(b"pseudo-random grids up to 4 by 4, a third live: ", 0);
     edges::try_random(b"the same under pseudo-random rules: ", 5);
-    forged::try_jobs(b"forged jobs: ", 0);
-    forged::try_jobs(b"forged jobs under other rules: ", 5);
+    forged::try_jobs(b"forged jobs: ", Kind::Ordinary, 0);
+    forged::try_jobs(b"forged jobs under other rules: ", Kind::Ordinary, 5);
+    forged::try_jobs(b"forged jobs of two layers: ", Kind::TwoLayers, 0);
+    forged::try_jobs(
+        b"forged jobs of two layers under other rules: ",
+        Kind::TwoLayers,
+        5,
+    );
     numbers::try_all();
+    limits::try_all();
 }

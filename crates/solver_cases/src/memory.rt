@@ -1,6 +1,7 @@
 // The memory that calls are lent: leftovers to start with, and what a call left of them.
 use crate::calls;
 use crate::random;
+use crate::sizes::Size;
 use std::num;
 
 // The entries and the cells of the memory, more than any size tried needs but 9 by 1, which is refused by 6.
@@ -53,15 +54,24 @@ fn spoil_board(board: &mut [u8], seed: usize) {
     }
 }
 
-// Whether the memory past the first entries and cells is as it was spoiled.
-pub fn kept(m: Memory, entries: usize, cells: usize, seed: usize) -> bool {
+// Whether the memory but what a job writes, entries and the first cells, is as it was spoiled.
+pub fn kept(m: Memory, s: Size, cells: usize, seed: usize) -> bool {
     let before = spoiled(seed);
-    entries_unlike(m, before, entries, ENTRIES) == 0 && cells_unlike(m, before, cells, CELLS) == 0
+    let entries = num::wrapping_add_usize(
+        entries_unlike(m, before, 0, s.first),
+        entries_unlike(m, before, s.room, ENTRIES),
+    );
+    entries == 0 && cells_unlike(m, before, cells, CELLS) == 0
 }
 
-// Whether the first entries and cells are the same.
-pub fn same(a: Memory, b: Memory, entries: usize, cells: usize) -> bool {
-    entries_unlike(a, b, 0, entries) == 0 && cells_unlike(a, b, 0, cells) == 0
+// Whether the entries that a job writes and the first cells are the same.
+pub fn same_written(a: Memory, b: Memory, s: Size, cells: usize) -> bool {
+    entries_unlike(a, b, s.first, s.room) == 0 && cells_unlike(a, b, 0, cells) == 0
+}
+
+// Whether all of the memory is the same.
+pub fn same(a: Memory, b: Memory) -> bool {
+    entries_unlike(a, b, 0, ENTRIES) == 0 && cells_unlike(a, b, 0, CELLS) == 0
 }
 
 // The entries from a place to another that differ.

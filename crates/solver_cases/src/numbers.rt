@@ -1,4 +1,4 @@
-// Numbers around the edges of the rules: which of them resuming and pausing take.
+// Numbers around the edges of the rules of both kinds: which of them resuming and pausing take.
 use crate::calls;
 use crate::marks;
 use crate::random;
@@ -9,6 +9,7 @@ use crate::unit;
 use job::Checkpoint;
 use job::Job;
 use job::JobResult;
+use job::Kind;
 use job::Paused;
 use job::Stage;
 use rule::Rule;
@@ -21,16 +22,100 @@ struct Tally {
 }
 
 pub fn try_all() {
+    let ordinary = try_kind(Kind::Ordinary);
+    print(
+        b"numbers around the rules that resuming takes: ",
+        ordinary.resumed,
+    );
+    print(
+        b"jobs around the rules that pausing takes: ",
+        ordinary.paused,
+    );
+    let two = try_kind(Kind::TwoLayers);
+    print(
+        b"numbers around the rules of two layers that resuming takes: ",
+        two.resumed,
+    );
+    print(
+        b"jobs of two layers around the rules that pausing takes: ",
+        two.paused,
+    );
+    try_kinds();
+}
+
+// What was tried of a kind.
+struct Tallies {
+    resumed: Tally,
+    paused: Tally,
+}
+
+fn try_kind(kind: Kind) -> Tallies {
     let mut resumed = Tally { taken: 0, wrong: 0 };
     let mut paused = resumed;
     for k in 0..50000 {
-        let numbers = random_numbers(k + 4000000);
-        resumed = counted(resumed, numbers, unit::takes(numbers), resumes_as(numbers));
-        let job = random_job(numbers, k);
-        paused = counted(paused, calls::numbers_of(job), is_job(job), pauses_as(job));
+        let numbers = random_numbers(kind, k + 4000000);
+        resumed = with_numbers(resumed, kind, numbers);
+        paused = with_job(paused, random_job(kind, numbers, k));
     }
-    print(b"numbers around the rules that resuming takes: ", resumed);
-    print(b"jobs around the rules that pausing takes: ", paused);
+    Tallies { resumed, paused }
+}
+
+// Numbers of either kind, with a kind's number of 0, 1, 2 or far above, resumed as either, and jobs with them.
+fn try_kinds() {
+    let mut ordinary = Tally { taken: 0, wrong: 0 };
+    let mut two = ordinary;
+    let mut paused = ordinary;
+    for k in 0..50000 {
+        let numbers = with_any_kind(random_numbers(random_kind(k, 700001), k + 4100000), k);
+        ordinary = with_numbers(ordinary, Kind::Ordinary, numbers);
+        two = with_numbers(two, Kind::TwoLayers, numbers);
+        let job = job_in(random_kind(k, 700002), numbers, random::below(4, k, 700003));
+        paused = with_job(paused, job);
+    }
+    print(
+        b"numbers of either kind or none that resuming as an ordinary job takes: ",
+        ordinary,
+    );
+    print(
+        b"the same that resuming as a job of two layers takes: ",
+        two,
+    );
+    print(
+        b"jobs of either kind with them that pausing takes: ",
+        paused,
+    );
+}
+
+fn random_kind(seed: usize, place: usize) -> Kind {
+    match random::below(2, seed, place) {
+        0 => Kind::Ordinary,
+        _ => Kind::TwoLayers,
+    }
+}
+
+// The numbers of a job with the number of a kind, the first number of none, or one far above.
+fn with_any_kind(c: Checkpoint, seed: usize) -> Checkpoint {
+    let mut next = c;
+    next.kind = match random::below(8, seed, 700004) {
+        0..=2 => 0,
+        3..=5 => 1,
+        6 => 2,
+        _ => num::wrapping_sub_usize(0, num::wrapping_add_usize(seed % 3, 1)),
+    };
+    next
+}
+
+fn with_numbers(t: Tally, kind: Kind, numbers: Checkpoint) -> Tally {
+    counted(
+        t,
+        numbers,
+        unit::takes(kind, numbers),
+        resumes_as(kind, numbers),
+    )
+}
+
+fn with_job(t: Tally, job: Job) -> Tally {
+    counted(t, calls::numbers_of(job), is_job(job), pauses_as(job))
 }
 
 fn print(name: &[u8], t: Tally) {
@@ -39,7 +124,7 @@ fn print(name: &[u8], t: Tally) {
     report::line(b"  differences from the rules: ", t.wrong);
 }
 
-// An answer: 1 where the numbers were taken and nothing was lost of them, 0 where they were refused, otherwise 2.
+// Counts an answer.
 fn counted(t: Tally, numbers: Checkpoint, taken: bool, answer: usize) -> Tally {
     let right = if taken { 1 } else { 0 };
     let mut next = t;
@@ -52,7 +137,7 @@ fn counted(t: Tally, numbers: Checkpoint, taken: bool, answer: usize) -> Tally {
 }
 
 // Prints a difference with its numbers.
-fn print_numbers(c: Checkpoint) {
+pub fn print_numbers(c: Checkpoint) {
     report::line(b"difference: width ", c.width);
     report::line(b"  height ", c.height);
     report::line(b"  units ", c.units);
@@ -60,11 +145,13 @@ fn print_numbers(c: Checkpoint) {
     report::line(b"  last row ", c.last);
     report::line(b"  live ", c.live);
     report::line(b"  mark ", c.mark);
+    report::line(b"  kind ", c.kind);
     marks::print_rule(unit::rule_of(c));
 }
 
-fn resumes_as(numbers: Checkpoint) -> usize {
-    match numbers.resume() {
+// What resuming as a kind answers: 1 where the numbers were taken and nothing was lost of them, 0 where they were refused, otherwise 2.
+pub fn resumes_as(kind: Kind, numbers: Checkpoint) -> usize {
+    match numbers.resume(kind) {
         JobResult::Refused(r) => {
             if r.number() == 7 {
                 return 0;
@@ -80,6 +167,7 @@ fn resumes_as(numbers: Checkpoint) -> usize {
     }
 }
 
+// The same of pausing a job.
 fn pauses_as(job: Job) -> usize {
     match job.pause() {
         Paused::Refused(r) => {
@@ -106,19 +194,20 @@ fn pauses_to(job: Job, numbers: Checkpoint) -> bool {
 
 // Whether a job's stage fits its units, and its numbers the rules.
 fn is_job(job: Job) -> bool {
-    let s = sizes::sized(job.width, job.height);
+    let kind = job.kind;
+    let s = sizes::sized(kind, job.width, job.height);
     let stage = job.stage;
     let fits = match stage {
         Stage::Filling {
             above: _,
             last: _,
             live: _,
-        } => job.units < s.entries,
+        } => sizes::is_filling(s, job.units),
         Stage::Choosing {
             above: _,
             last: _,
             live: _,
-        } => s.entries <= job.units,
+        } => !sizes::is_filling(s, job.units),
         Stage::Finished {
             above: _,
             last: _,
@@ -126,16 +215,36 @@ fn is_job(job: Job) -> bool {
         } => true,
         Stage::Infeasible => true,
     };
-    fits && unit::takes(calls::numbers_of(job))
+    fits && unit::takes(kind, calls::numbers_of(job))
 }
 
-// A job of some numbers in any stage.
-fn random_job(c: Checkpoint, seed: usize) -> Job {
-    let stage = match random::below(4, seed, 700000) {
+// A job of some numbers in any stage. An ordinary one that fills has no rows.
+fn random_job(kind: Kind, c: Checkpoint, seed: usize) -> Job {
+    let stage = random::below(4, seed, 700000);
+    let numbers = match kind {
+        Kind::Ordinary => without_rows(c, stage),
+        Kind::TwoLayers => c,
+    };
+    job_in(kind, numbers, stage)
+}
+
+fn without_rows(c: Checkpoint, stage: usize) -> Checkpoint {
+    let mut next = c;
+    if stage == 0 {
+        next.above = 0;
+        next.last = 0;
+        next.live = 0;
+    }
+    next
+}
+
+// A job of a kind with the other numbers of a job, in one of the four stages.
+fn job_in(kind: Kind, c: Checkpoint, number: usize) -> Job {
+    let stage = match number {
         0 => Stage::Filling {
-            above: 0,
-            last: 0,
-            live: 0,
+            above: c.above,
+            last: c.last,
+            live: c.live,
         },
         1 => Stage::Choosing {
             above: c.above,
@@ -150,6 +259,7 @@ fn random_job(c: Checkpoint, seed: usize) -> Job {
         _ => Stage::Infeasible,
     };
     Job {
+        kind,
         rule: unit::rule_of(c),
         width: c.width,
         height: c.height,
@@ -159,10 +269,11 @@ fn random_job(c: Checkpoint, seed: usize) -> Job {
 }
 
 // Numbers that mostly keep the rules, so that those that do not mostly break one.
-fn random_numbers(seed: usize) -> Checkpoint {
+fn random_numbers(kind: Kind, seed: usize) -> Checkpoint {
     let tall = random::below(3, seed, 800000) == 0;
     let low = if tall { 58 } else { 0 };
     let s = sizes::sized(
+        kind,
         random::below(12, seed, 800001),
         num::wrapping_add_usize(low, random::below(4, seed, 800002)),
     );
@@ -172,7 +283,10 @@ fn random_numbers(seed: usize) -> Checkpoint {
         13..=14 => 2,
         _ => 3,
     };
-    let units = random_units(s, mark, seed);
+    let units = match kind {
+        Kind::Ordinary => random_units(s, mark, seed),
+        Kind::TwoLayers => two_layer_units(s, mark, seed),
+    };
     let n = sizes::rows(s.w);
     let rule = random_rule(seed);
     Checkpoint {
@@ -185,6 +299,7 @@ fn random_numbers(seed: usize) -> Checkpoint {
         mark,
         births: rule.births,
         survivals: rule.survivals,
+        kind: calls::number_of(kind),
     }
 }
 
@@ -203,7 +318,7 @@ fn random_rule(seed: usize) -> Rule {
     }
 }
 
-// Where a job of a mark stands, at the ends of filling and choosing, beside them, or anywhere.
+// Where an ordinary job of a mark stands, at the ends of filling and choosing, beside them, or anywhere.
 fn random_units(s: Size, mark: usize, seed: usize) -> usize {
     let end = num::wrapping_add_usize(s.entries, s.h);
     match random::below(16, seed, 800004) {
@@ -216,6 +331,30 @@ fn random_units(s: Size, mark: usize, seed: usize) -> usize {
         6..=7 => num::wrapping_sub_usize(s.entries, 1),
         8 => s.entries,
         9..=10 => num::wrapping_add_usize(s.entries, 1),
+        11 => num::wrapping_sub_usize(end, 1),
+        12..=13 => end,
+        14 => num::wrapping_add_usize(end, 1),
+        _ => num::wrapping_sub_usize(0, random::below(70, seed, 800005)),
+    }
+}
+
+// Where a job of two layers of a mark stands, where a row has just been chosen, at the ends, beside them, or anywhere.
+fn two_layer_units(s: Size, mark: usize, seed: usize) -> usize {
+    let end = sizes::length(s);
+    let k = random::below(num::wrapping_add_usize(s.h, 1), seed, 800015);
+    let row = sizes::until_row(s, k);
+    match random::below(16, seed, 800004) {
+        0..=4 => match mark {
+            0 => row,
+            1 => end,
+            _ => sizes::none_length(s),
+        },
+        5 => random::below(end, seed, 800005),
+        6 => num::wrapping_sub_usize(row, 2),
+        7 => num::wrapping_sub_usize(row, 1),
+        8 => num::wrapping_add_usize(row, 1),
+        9 => s.entries,
+        10 => sizes::none_length(s),
         11 => num::wrapping_sub_usize(end, 1),
         12..=13 => end,
         14 => num::wrapping_add_usize(end, 1),
@@ -236,7 +375,11 @@ fn random_row(n: usize, seed: usize, place: usize) -> usize {
 
 // None, the most that the rows chosen can have, one more, or anything.
 fn random_live(s: Size, units: usize, seed: usize) -> usize {
-    let chosen = num::wrapping_sub_usize(units, s.entries);
+    let kind = s.kind;
+    let chosen = match kind {
+        Kind::Ordinary => num::wrapping_sub_usize(units, s.entries),
+        Kind::TwoLayers => sizes::chosen(s, units),
+    };
     let most = sizes::times(s.w, calls::least(chosen, 61));
     match random::below(16, seed, 800010) {
         0..=7 => 0,

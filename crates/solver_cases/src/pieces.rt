@@ -1,5 +1,6 @@
 // A run in pieces: random allowances, each call after a pause and a resumption, and calls in between that must be refused.
 use crate::calls;
+use crate::calls::After;
 use crate::calls::Lent;
 use crate::edges;
 use crate::marks;
@@ -21,6 +22,8 @@ pub struct Pieces {
     pub refused: usize,
     // Of those refused, the ones over an edge three.
     pub edges: usize,
+    // Resumptions as the other kind.
+    pub others: usize,
     pub wrong: usize,
 }
 
@@ -32,6 +35,7 @@ struct Turn {
     calls: usize,
     refused: usize,
     edges: usize,
+    others: usize,
     wrong: usize,
 }
 
@@ -51,6 +55,7 @@ pub fn run(
         calls: 0,
         refused: 0,
         edges: 0,
+        others: 0,
         wrong: 0,
     };
     let last = turns(s, seed, best, givens, start);
@@ -58,6 +63,7 @@ pub fn run(
         calls: last.calls,
         refused: last.refused,
         edges: last.edges,
+        others: last.others,
         wrong: after(s, seed, best, last, givens, one),
     }
 }
@@ -88,7 +94,7 @@ fn after(
 // Whether the memory is as one run left its own, and as it was past what a run needs.
 fn is_like(s: Size, seed: usize, best: Best, one: Memory, m: Memory) -> bool {
     let written = plain::written(s, best);
-    memory::same(one, m, s.entries, written) && memory::kept(m, s.entries, written, seed)
+    memory::same_written(one, m, s, written) && memory::kept(m, s, written, seed)
 }
 
 // Whether a call on the ended job gives the same answer again, and alters nothing.
@@ -123,13 +129,16 @@ fn next_turn(s: Size, seed: usize, best: Best, givens: [u8; memory::CELLS], t: T
     if !calls::same_job(job, calls::resumed(job)) {
         return differs(b"a job resumed", t);
     }
-    let kind = random::below(16, seed, num::wrapping_add_usize(t.calls, 300000));
-    if 8 <= kind {
+    let fault = random::below(16, seed, num::wrapping_add_usize(t.calls, 300000));
+    if 12 <= fault {
         return work_turn(s, seed, best, givens, t);
     }
+    if 8 <= fault {
+        return other_turn(s, seed, best, givens, t);
+    }
     let m = t.memory;
-    let place = edge_of(s, kind, job, givens);
-    if !is_turned_away(s, kind, place, job, givens, m) {
+    let place = edge_of(s, fault, job, givens);
+    if !is_turned_away(s, fault, place, job, givens, m) {
         return differs(b"a call to be refused", t);
     }
     let mut next = t;
@@ -140,12 +149,20 @@ fn next_turn(s: Size, seed: usize, best: Best, givens: [u8; memory::CELLS], t: T
     work_turn(s, seed, best, givens, next)
 }
 
+// One turn with a resumption as the other kind, which must be refused.
+fn other_turn(s: Size, seed: usize, best: Best, givens: [u8; memory::CELLS], t: Turn) -> Turn {
+    let job = t.job;
+    if !calls::is_other_refused(job) {
+        return differs(b"a resumption as the other kind", t);
+    }
+    let mut next = t;
+    next.others = num::wrapping_add_usize(t.others, 1);
+    work_turn(s, seed, best, givens, next)
+}
+
 fn work_turn(s: Size, seed: usize, best: Best, givens: [u8; memory::CELLS], t: Turn) -> Turn {
-    let allowance = random::allowance(s.entries, seed, t.calls);
-    let paused = t.job;
-    let job = calls::resumed(paused);
-    let m = t.memory;
-    let r = calls::work(job, calls::exact(s), &givens, m, allowance);
+    let allowance = random::allowance(s.fills, seed, t.calls);
+    let r = worked(s, allowance, givens, t);
     let status = r.status;
     let next = r.job;
     let left = r.memory;
@@ -156,9 +173,19 @@ fn work_turn(s: Size, seed: usize, best: Best, givens: [u8; memory::CELLS], t: T
         calls: num::wrapping_add_usize(t.calls, 1),
         refused: t.refused,
         edges: t.edges,
+        others: t.others,
         wrong: 0,
     };
     judged(s, best, status, turn)
+}
+
+// The working call of a turn, after a pause and a resumption. At every third one the table has no entry to spare.
+fn worked(s: Size, allowance: u32, givens: [u8; memory::CELLS], t: Turn) -> After {
+    let paused = t.job;
+    let job = calls::resumed(paused);
+    let lent = calls::with_spare(s, t.calls % 3);
+    let m = t.memory;
+    calls::work(job, lent, &givens, m, allowance)
 }
 
 // The turn after a working call: the units are the allowances' sum, but no more than the job's length.
@@ -179,7 +206,7 @@ fn judged(s: Size, best: Best, status: Status, t: Turn) -> Turn {
 // Whether a call that breaks one rule is refused by its number, with the job handed back and nothing written.
 fn is_turned_away(
     s: Size,
-    kind: usize,
+    fault: usize,
     place: usize,
     job: Job,
     givens: [u8; memory::CELLS],
@@ -188,18 +215,18 @@ fn is_turned_away(
     if place < s.cells {
         return calls::is_refused_by(14, place, job, calls::exact(s), with_edge(s, givens), m);
     }
-    if kind == 5 {
+    if fault == 5 {
         return is_mark_refused(s, job, givens, m);
     }
-    if 5 < kind {
-        return calls::is_refused_by(7, 0, forged(job, kind), calls::exact(s), givens, m);
+    if 5 < fault {
+        return calls::is_refused_by(7, 0, forged(job, fault), calls::exact(s), givens, m);
     }
-    calls::is_refused_by(number_of(kind), 0, job, wrong_length(s, kind), givens, m)
+    calls::is_refused_by(number_of(fault), 0, job, wrong_length(s, fault), givens, m)
 }
 
 // The refusal for a wrong length.
-fn number_of(kind: usize) -> u8 {
-    match kind {
+fn number_of(fault: usize) -> u8 {
+    match fault {
         0..=1 => 5,
         2 => 6,
         _ => 3,
@@ -207,18 +234,18 @@ fn number_of(kind: usize) -> u8 {
 }
 
 // A board or givens of one too few or one too many, or a table of one too few.
-fn wrong_length(s: Size, kind: usize) -> Lent {
+fn wrong_length(s: Size, fault: usize) -> Lent {
     let fewer = num::wrapping_sub_usize(s.cells, 1);
     let more = num::wrapping_add_usize(s.cells, 1);
-    let short = num::wrapping_sub_usize(s.entries, 1);
+    let short = num::wrapping_sub_usize(s.room, 1);
     Lent {
-        givens: match kind {
+        givens: match fault {
             3 => fewer,
             4 => more,
             _ => s.cells,
         },
-        table: if kind == 2 { short } else { s.entries },
-        board: match kind {
+        table: if fault == 2 { short } else { s.room },
+        board: match fault {
             0 => fewer,
             1 => more,
             _ => s.cells,
@@ -227,8 +254,8 @@ fn wrong_length(s: Size, kind: usize) -> Lent {
 }
 
 // The place of the edge three that a call lends, at odd units; the number of cells where it lends none.
-fn edge_of(s: Size, kind: usize, job: Job, givens: [u8; memory::CELLS]) -> usize {
-    if kind != 5 || job.units % 2 == 0 {
+fn edge_of(s: Size, fault: usize, job: Job, givens: [u8; memory::CELLS]) -> usize {
+    if fault != 5 || job.units % 2 == 0 {
         return s.cells;
     }
     let rule = job.rule;
@@ -257,11 +284,13 @@ fn is_mark_refused(s: Size, job: Job, givens: [u8; memory::CELLS], m: Memory) ->
 }
 
 // A job whose numbers break a rule: its stage does not fit, its rule has birth on 0, or its units are too many.
-fn forged(job: Job, kind: usize) -> Job {
-    if kind == 7 {
+fn forged(job: Job, fault: usize) -> Job {
+    if fault == 7 {
+        let kind = job.kind;
         let rule = job.rule;
         let stage = job.stage;
         return Job {
+            kind,
             rule,
             width: job.width,
             height: job.height,
@@ -278,7 +307,7 @@ fn forged(job: Job, kind: usize) -> Job {
     next
 }
 
-// A stage that does not fit the units of a job in this one.
+// A stage that does not fit the units of a running job in this one.
 fn other_stage(stage: Stage) -> Stage {
     match stage {
         Stage::Filling {
@@ -299,19 +328,6 @@ fn other_stage(stage: Stage) -> Stage {
             last: 0,
             live: 0,
         },
-        Stage::Finished {
-            above: _,
-            last: _,
-            score: _,
-        } => Stage::Filling {
-            above: 0,
-            last: 0,
-            live: 0,
-        },
-        Stage::Infeasible => Stage::Filling {
-            above: 0,
-            last: 0,
-            live: 0,
-        },
+        _ => stage,
     }
 }

@@ -123,7 +123,10 @@ pub fn best_board(rule: Rule, s: Size, givens: &[u8]) -> Best {
 
 // A job's length in units.
 pub fn length(s: Size, best: Best) -> usize {
-    num::wrapping_add_usize(s.entries, if best.found { s.h } else { 1 })
+    if best.found {
+        return sizes::length(s);
+    }
+    sizes::none_length(s)
 }
 
 // The cells that a job writes.

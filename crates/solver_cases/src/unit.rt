@@ -1,4 +1,5 @@
 // A unit of a job, and the rule for its numbers, by the documents and written apart from the library.
+use crate::calls;
 use crate::memory;
 use crate::memory::Memory;
 use crate::plain;
@@ -7,6 +8,7 @@ use crate::sizes;
 use crate::sizes::Size;
 use job::Checkpoint;
 use job::Job;
+use job::Kind;
 use job::Stage;
 use rule::Rule;
 use std::num;
@@ -18,7 +20,7 @@ pub struct Ran {
 }
 
 pub fn work(start: Checkpoint, givens: &[u8], memory: Memory, allowance: u32) -> Ran {
-    let s = sizes::sized(start.width, start.height);
+    let s = size_of(start);
     let mut table = memory.table;
     let mut board = memory.board;
     let numbers = units(s, start, givens, &mut table, &mut board, allowance);
@@ -54,23 +56,29 @@ fn one_more(
     table: &mut [u16],
     board: &mut [u8],
 ) -> Checkpoint {
-    if c.units < s.entries {
+    if sizes::is_filling(s, c.units) {
         return fill(s, c, givens, table);
     }
     choose(s, c, givens, table, board)
 }
 
+// The units since the last row was chosen.
+fn since_row(s: Size, units: usize) -> usize {
+    let k = sizes::chosen(s, units);
+    num::wrapping_sub_usize(units, sizes::until_row(s, k))
+}
+
 // Layers from the last one up; in a layer a rises, then b.
 fn fill(s: Size, c: Checkpoint, givens: &[u8], table: &mut [u16]) -> Checkpoint {
-    let u = c.units;
+    let u = since_row(s, c.units);
     let n = sizes::rows(s.w);
     let i = num::wrapping_sub_usize(s.h, u / sizes::layer(s.w));
     let a = u / n % n;
     let b = u % n;
     let entry = entry_of(rule_of(c), s, i, a, b, givens, table);
-    store(table, place(s.w, i, a, b), entry);
+    store(table, place(s, i, a, b), entry);
     let mut next = c;
-    next.units = num::wrapping_add_usize(u, 1);
+    next.units = num::wrapping_add_usize(c.units, 1);
     next
 }
 
@@ -87,16 +95,16 @@ fn entry_of(
         return last_entry(rule, s.w, a, b);
     }
     let m = plain::masks_of(givens, sizes::times(i, s.w), s.w);
-    best_below(rule, s.w, a, b, num::wrapping_add_usize(i, 1), m, table).sum
+    best_below(rule, s, a, b, num::wrapping_add_usize(i, 1), m, table).sum
 }
 
 // Row k, the first that has none.
 fn choose(s: Size, c: Checkpoint, givens: &[u8], table: &[u16], board: &mut [u8]) -> Checkpoint {
-    let before = num::wrapping_sub_usize(c.units, s.entries);
+    let before = sizes::chosen(s, c.units);
     let k = num::wrapping_add_usize(before, 1);
     let at = sizes::times(before, s.w);
     let m = plain::masks_of(givens, at, s.w);
-    let best = best_below(rule_of(c), s.w, c.above, c.last, k, m, table);
+    let best = best_below(rule_of(c), s, c.above, c.last, k, m, table);
     if best.sum == 65535 {
         return without_row(c, k);
     }
@@ -145,20 +153,12 @@ struct Below {
 }
 
 // The best row k below a over b.
-fn best_below(
-    rule: Rule,
-    w: usize,
-    a: usize,
-    b: usize,
-    k: usize,
-    m: Masks,
-    table: &[u16],
-) -> Below {
-    let end = sizes::rows(w);
+fn best_below(rule: Rule, s: Size, a: usize, b: usize, k: usize, m: Masks, table: &[u16]) -> Below {
+    let end = sizes::rows(s.w);
     let mut best = 0; // one more than the best sum, 0 while there is none
     let mut row = 0;
     for c in 0..end {
-        let v = offer(rule, w, a, b, c, k, m, table);
+        let v = offer(rule, s, a, b, c, k, m, table);
         if best < v {
             best = v;
             row = c;
@@ -173,7 +173,7 @@ fn best_below(
 // One more than the sum of row c, 0 where it cannot be row k below a over b.
 fn offer(
     rule: Rule,
-    w: usize,
+    s: Size,
     a: usize,
     b: usize,
     c: usize,
@@ -181,18 +181,23 @@ fn offer(
     m: Masks,
     table: &[u16],
 ) -> usize {
-    let entry = load(table, place(w, k, b, c));
-    if entry <= 600 && plain::keeps_givens(m, c) && plain::agree(rule, w, a, b, c) {
+    let entry = load(table, place(s, k, b, c));
+    if entry <= 600 && plain::keeps_givens(m, c) && plain::agree(rule, s.w, a, b, c) {
         return num::wrapping_add_usize(num::wrapping_add_usize(plain::score(m, c), entry), 1);
     }
     0
 }
 
 // Where layer i keeps the entry of a over b.
-fn place(w: usize, i: usize, a: usize, b: usize) -> usize {
-    let layers = sizes::times(num::wrapping_sub_usize(i, 1), sizes::layer(w));
-    let above = sizes::times(a, sizes::rows(w));
-    num::wrapping_add_usize(num::wrapping_add_usize(layers, above), b)
+fn place(s: Size, i: usize, a: usize, b: usize) -> usize {
+    let kind = s.kind;
+    let layers = match kind {
+        Kind::Ordinary => num::wrapping_sub_usize(i, 1),
+        Kind::TwoLayers => i % 2,
+    };
+    let start = sizes::times(layers, sizes::layer(s.w));
+    let above = sizes::times(a, sizes::rows(s.w));
+    num::wrapping_add_usize(num::wrapping_add_usize(start, above), b)
 }
 
 fn load(table: &[u16], k: usize) -> usize {
@@ -225,9 +230,22 @@ pub fn rule_of(c: Checkpoint) -> Rule {
     }
 }
 
+// The kind of a number; the ordinary one where no kind has it.
+fn kind_of(number: usize) -> Kind {
+    match number {
+        1 => Kind::TwoLayers,
+        _ => Kind::Ordinary,
+    }
+}
+
+fn size_of(c: Checkpoint) -> Size {
+    sizes::sized(kind_of(c.kind), c.width, c.height)
+}
+
 // The job of these numbers; one that could not choose a row stands before it.
 pub fn job_of(c: Checkpoint) -> Job {
     Job {
+        kind: kind_of(c.kind),
         rule: rule_of(c),
         width: c.width,
         height: c.height,
@@ -237,7 +255,6 @@ pub fn job_of(c: Checkpoint) -> Job {
 }
 
 fn stage_of(c: Checkpoint) -> Stage {
-    let s = sizes::sized(c.width, c.height);
     let mark = c.mark;
     match mark {
         1 => Stage::Finished {
@@ -247,7 +264,7 @@ fn stage_of(c: Checkpoint) -> Stage {
         },
         2 => Stage::Infeasible,
         _ => {
-            if c.units < s.entries {
+            if sizes::is_filling(size_of(c), c.units) {
                 return Stage::Filling {
                     above: c.above,
                     last: c.last,
@@ -263,8 +280,11 @@ fn stage_of(c: Checkpoint) -> Stage {
     }
 }
 
-// Whether resuming takes the numbers.
-pub fn takes(c: Checkpoint) -> bool {
+// Whether resuming as a kind takes the numbers.
+pub fn takes(kind: Kind, c: Checkpoint) -> bool {
+    if c.kind != calls::number_of(kind) {
+        return false;
+    }
     is_size(c.width, c.height) && is_rule(c) && are_rows(c) && is_stage(c)
 }
 
@@ -284,18 +304,12 @@ fn are_rows(c: Checkpoint) -> bool {
 
 // Whether the units, the rows and the live cells fit the mark.
 fn is_stage(c: Checkpoint) -> bool {
-    let s = sizes::sized(c.width, c.height);
-    let units = c.units;
-    let chosen = if units < s.entries {
-        0
-    } else {
-        units - s.entries
-    };
+    let s = size_of(c);
     let mark = c.mark;
     match mark {
-        0 => chosen < s.h && rows_fit(c, chosen),
-        1 => chosen == s.h && rows_fit(c, chosen),
-        2 => chosen == 1 && rows_fit(c, 0),
+        0 => c.units < sizes::length(s) && rows_fit(c, sizes::chosen(s, c.units)),
+        1 => c.units == sizes::length(s) && rows_fit(c, s.h),
+        2 => c.units == sizes::none_length(s) && rows_fit(c, 0),
         _ => false,
     }
 }

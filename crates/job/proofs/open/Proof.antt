@@ -9,6 +9,7 @@ use Rattle.board.specs.Answers.{refusalSays}
 use Rattle.board.specs.declared.Refusal.{Refusal}
 use Rattle.board.proofs.Answers.{turned-away, passed-on}
 use Rattle.rule.specs.declared.Rule.{Rule}
+use Rattle.job.specs.declared.Kind.{Kind}
 use Rattle.job.specs.declared.Job.{Job}
 use Rattle.job.specs.declared.JobResult.{JobResult}
 use Rattle.job.specs.Jobs.{openRule}
@@ -17,7 +18,7 @@ use Rattle.job.proofs.open.Statement.{statement}
 use Rattle.job.proofs.open.Tie as tie
 
 -- a refusal hands out no job
-refused : {rule : Rule} {w h : ℕ} {givens : List ℕ} {r : Refusal} → refusalSays r ≡ openRule rule w h givens → Opens rule w h givens (JobResult.Refused r)
+refused : {kind : Kind} {rule : Rule} {w h : ℕ} {givens : List ℕ} {r : Refusal} → refusalSays r ≡ openRule kind rule w h givens → Opens kind rule w h givens (JobResult.Refused r)
 refused e = record { says = e; job = λ j q. absurd (let z : _≡_ {A = ℕ} 0 1 = cc in omega arith) }
 
 -- what is handed out is the job that was made

@@ -15,10 +15,10 @@ use Rattle.runner.proofs.run.Tie as tie
 
 abbrev Inv-loop : tie.InvT-loop
 Inv-loop givens table₀ board₀ job₀ table board job =
-    Going (job₀ .rule) (job₀ .width) (job₀ .height) givens table₀ board₀ (lentState job table board) × (length table ≡ length table₀) × (length board ≡ length board₀)
+    Going (job₀ .kind) (job₀ .rule) (job₀ .width) (job₀ .height) givens table₀ board₀ (lentState job table board) × (length table ≡ length table₀) × (length board ≡ length board₀)
 
 abbrev μ-loop : tie.MeasureT-loop
-μ-loop givens table₀ board₀ job₀ table board job = boardLength (job₀ .width) (job₀ .height) - job .units
+μ-loop givens table₀ board₀ job₀ table board job = boardLength (job₀ .kind) (job₀ .width) (job₀ .height) - job .units
 
 loop-holds : tie.Need-loop-holds Inv-loop μ-loop
 loop-holds c = (ready-begins (c .before .before .before .pre), refl, refl)

@@ -7,7 +7,7 @@ use Rattle.solver_squares.proofs.main.Statement.{statement}
 use Rattle.solver_squares.proofs.main.Tie as tie
 
 slice-aggregate-squares : tie.Need-slice-aggregate-squares
-slice-aggregate-squares c = sym (length-replicate {0} {A = ℕ} 10485760 0)
+slice-aggregate-squares c = sym (length-replicate {0} {A = ℕ} 2359296 0)
 
 squares-requires : tie.Need-squares-requires
 squares-requires c κs = tt

@@ -13,6 +13,9 @@ least-requires c κs = search needs
 least-requires-2 : tie.Need-least-requires-2
 least-requires-2 c κs = search needs
 
+least-requires-3 : tie.Need-least-requires-3
+least-requires-3 c κs = search needs
+
 slice-aggregate-solve-part : tie.Need-slice-aggregate-solve-part
 slice-aggregate-solve-part c = sym (length-take-le _ _ (omega arith))
 
@@ -21,6 +24,12 @@ slice-relend-prefix-solve-part c = search needs
 
 slice-aggregate-solve-part-2 : tie.Need-slice-aggregate-solve-part-2
 slice-aggregate-solve-part-2 c = sym (length-take-le _ _ (omega arith))
+
+slice-relend-prefix-solve-part-2 : tie.Need-slice-relend-prefix-solve-part-2
+slice-relend-prefix-solve-part-2 c = search needs
+
+slice-aggregate-solve-part-3 : tie.Need-slice-aggregate-solve-part-3
+slice-aggregate-solve-part-3 c = sym (length-take-le _ _ (omega arith))
 
 solve-part-requires : tie.Need-solve-part-requires
 solve-part-requires c κs = search needs
@@ -40,9 +49,12 @@ solve-spec =
     (tie.spec
     least-requires
     least-requires-2
+    least-requires-3
     slice-aggregate-solve-part
     slice-relend-prefix-solve-part
     slice-aggregate-solve-part-2
+    slice-relend-prefix-solve-part-2
+    slice-aggregate-solve-part-3
     solve-part-requires
     same-length
     same-length-2

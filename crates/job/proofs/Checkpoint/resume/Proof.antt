@@ -15,7 +15,7 @@ use Rattle.job.proofs.Checkpoint.resume.Statement.{statement}
 use Rattle.job.proofs.Checkpoint.resume.Tie as tie
 
 -- past the test the numbers fit
-numbers-fit : (c : tie.Else1) → checkpointFits (c .before .before .args .self) ≡ true
+numbers-fit : (c : tie.Else1) → checkpointFits (c .before .before .args .kind) (c .before .before .args .self) ≡ true
 numbers-fit c = sym (c .before .checkpoint-fits .ensures) ∙ not-false _ (c .if1 .left)
 
 -- what is handed out is the job that was made
@@ -33,12 +33,12 @@ returns c = record {
 }
 
 job-of-requires : tie.Need-job-of-requires
-job-of-requires c κs = let s = numbers-at _ (numbers-fit c) .frame .size in (s .narrow, s .low)
+job-of-requires c κs = let s = numbers-at _ _ (numbers-fit c) .frame .size in (s .narrow, s .low)
 
 returns-2 : tie.Need-returns-2
 unfolding resumeRule
 returns-2 c = record {
-  says = rw (c .job-of .ensures) (simp (numbers-fit (c .before), numbers-back _ (numbers-fit (c .before))));
+  says = rw (c .job-of .ensures) (simp (numbers-fit (c .before), numbers-back _ _ (numbers-fit (c .before))));
   job = λ j e. handed e (c .job-of .ensures);
 }
 

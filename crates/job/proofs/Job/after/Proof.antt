@@ -1,60 +1,69 @@
--- `job::Job::after` meets its contract, by the job's task.
+-- `job::Job::after` meets its contract, by the round of the job's next unit.
 -- Assumes nothing.
-use mathlib.Core.Path.{sym, _∙_, ap}
-use native.Mathlib.Omega.{arith}
+use mathlib.Core.Path.{_≡_, sym, _∙_}
+use mathlib.Core.Bool.{true}
 use borrow.Author.Needs.{needs}
-use Rattle.elimination.specs.Task.{row}
-use Rattle.job.specs.Jobs.{taskOf, afterUnit}
-use Rattle.job.proofs.Shapes.{row-at}
-use Rattle.job.proofs.Next.{due-at}
+use borrow.Author.Tests.{not-true, not-false}
+use Rattle.job.specs.Jobs.{runsWithin}
+use Rattle.job.proofs.Shapes.{fills-entry, fills-next, rows-left}
+use Rattle.job.proofs.Next.{runs-within, after-never, after-fills, after-chooses, after-spent, rows-early}
 use Rattle.job.proofs.Job.after.Statement.{statement}
 use Rattle.job.proofs.Job.after.Tie as tie
 
-task-requires : tie.Need-task-requires
-task-requires c κs = search needs
+-- past the test the job runs
+running : (c : tie.Else1) → runsWithin (c .before .before .args .self) ≡ true
+running c = sym (c .before .is-running .ensures) ∙ not-false _ (c .if1 .left)
 
-enum-told : tie.Need-enum-told
-enum-told c = search needs
+is-running-requires : tie.Need-is-running-requires
+is-running-requires c κs = search needs
+
+returns : tie.Need-returns
+returns c = after-never _ (sym (c .before .is-running .ensures) ∙ not-true _ (c .if1 .taken)) _
+
+round-of-requires : tie.Need-round-of-requires
+round-of-requires c κs = let p = runs-within (c .before .before .args .self) (running c) in (p .0, p .1)
 
 after-entry-requires : tie.Need-after-entry-requires
 after-entry-requires c κs =
-    let D = due-at _ _ (sym (c .before .before .task .ensures) ∙ ap taskOf (c .enum-told .given .1)) in
-    (D .narrow, D .low, D .until)
+    let r = c .before .before .before in
+    let p = runs-within (r .before .before .before .args .self) (running (r .before)) in
+    let R = r .round-of .ensures in
+    ((p .0, p .1, fills-entry R (c .before .if2 .taken) .1), sym (fills-next R (c .before .if2 .taken)))
 
-enum-known-row : tie.Need-enum-known-row
-enum-known-row c = search needs
+returns-2 : tie.Need-returns-2
+returns-2 c =
+    let r = c .before .before .before .before in
+    c .after-entry .ensures ∙ after-fills _ (running (r .before)) (r .round-of .ensures) _ (c .before .before .if2 .taken)
 
 after-choice-requires : tie.Need-after-choice-requires
 after-choice-requires c κs =
-    let D = due-at _ _ (sym (c .before .before .before .task .ensures) ∙ ap taskOf (c .before .row .given .1)) in
-    let R = row-at _ _ _ _ _ (D .plans) in
-    (D .narrow, D .low, D .until, omega (arith, R .rows))
-
-enum-told-2 : tie.Need-enum-told-2
-enum-told-2 c = search needs
-
-returns : tie.Need-returns
-unfolding afterUnit
-returns c = c .after-entry .ensures ∙ rw (sym (c .before .before .before .task .ensures) ∙ ap taskOf (c .before .enum-told .given .1))
-
-returns-2 : tie.Need-returns-2
-unfolding afterUnit
-returns-2 c = c .after-choice .ensures ∙ rw (sym (c .before .before .before .before .task .ensures) ∙ ap taskOf (c .before .before .row .given .1))
+    let f = c .before .before .before in
+    let r = f .before .before in
+    let e = running (r .before) in
+    let p = runs-within (r .before .before .before .args .self) e in
+    let R = r .round-of .ensures in
+    (p .0, p .1, rows-left R (c .if3 .taken), rows-early (r .before .before .before .args .self) R (f .if2 .left) (c .if3 .taken))
 
 returns-3 : tie.Need-returns-3
-unfolding afterUnit
-returns-3 c = rw (sym (c .before .before .task .ensures) ∙ ap taskOf (c .enum-told2 .given .1))
+returns-3 c =
+    let f = c .before .before .before .before in
+    let r = f .before .before in
+    c .after-choice .ensures ∙ after-chooses _ (running (r .before)) (r .round-of .ensures) _ (f .if2 .left) (c .before .if3 .taken)
+
+returns-4 : tie.Need-returns-4
+returns-4 c =
+    let r = c .before .before .before .before .before in
+    after-spent _ (running (r .before)) (r .round-of .ensures) _ (c .if3 .left)
 
 pub after-spec : {M : Type 1} → statement M
 after-spec =
     tie.close
     (tie.spec
-    task-requires
-    enum-told
-    after-entry-requires
-    enum-known-row
-    after-choice-requires
-    enum-told-2
+    is-running-requires
     returns
+    round-of-requires
+    after-entry-requires
     returns-2
-    returns-3)
+    after-choice-requires
+    returns-3
+    returns-4)

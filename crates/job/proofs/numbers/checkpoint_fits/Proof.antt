@@ -5,40 +5,46 @@ use mathlib.Core.Bool.{true}
 use Prim.Native.Nat.{_^_}
 use native.Mathlib.Omega.{arith}
 use borrow.Author.Needs.{needs}
-use borrow.Author.Tests.{lt-ltb, le-ltb, not-true, not-false}
-use lib.Dec.{ltb}
+use borrow.Author.Tests.{lt-ltb, le-ltb, eq-eqb, ne-eqb, not-true, not-false}
+use lib.Dec.{eqb, ltb}
 use Rattle.board.specs.Answers.{checkSays}
 use Rattle.board.specs.Boards.{Sized}
 use Rattle.board.proofs.Answers.{let-through}
 use Rattle.rule.proofs.Rules.{grid-allowed}
 use Rattle.elimination.specs.Shape.{unitsFit, numbersFit}
-use Rattle.elimination.proofs.Shape as Shape
-use Rattle.job.specs.Jobs.{shapeOf, ruleOf, checkpointFits}
+use Rattle.job.specs.Jobs.{kindNumber, shapeOf, ruleOf, checkpointFits}
 use Rattle.job.proofs.Fits.{Frame, frame-fits}
-use Rattle.job.proofs.Checkpoints.{frame-misfits, chosen-le, shift-none, shift-some}
+use Rattle.job.proofs.Checkpoints.{frame-misfits, shift-none, shift-some}
 use Rattle.job.proofs.numbers.checkpoint_fits.Statement.{statement}
 use Rattle.job.proofs.numbers.checkpoint_fits.Tie as tie
 
 -- what each test that is passed shows
-frame-at : (c : tie.After-enum-told2) → let t = c .before .before .before .before .args .t in Frame (ruleOf t) (t .width) (t .height)
+of-at : (c : tie.Else1) → let a = c .before .before .before .args in eqb (a .t .kind) (kindNumber (a .kind)) ≡ true
+of-at c = eq-eqb _ _ (c .if1 .left ∙ c .before .before .number .ensures)
+
+frame-at : (c : tie.After-enum-told2) → let t = c .before .before .before .before .before .before .before .args .t in Frame (ruleOf t) (t .width) (t .height)
 frame-at c =
     let p = grid-allowed _ _ _ (let-through (rw (c .before .before .before .rule-of .ensures) at (c .before .before .check .ensures)) (c .enum-told2 .given .1)) in
     record { size = p .0; allowed = p .1 }
 
-size-at : (c : tie.After-enum-told2) → let t = c .before .before .before .before .args .t in Sized (t .width) (t .height)
+size-at : (c : tie.After-enum-told2) → let t = c .before .before .before .before .before .before .before .args .t in Sized (t .width) (t .height)
 size-at c = frame-at c .size
 
-over-at : (c : tie.Else1) → let t = c .before .before .before .before .before .before .args .t in ltb (t .above) (2 ^ t .width) ≡ true
-over-at c = lt-ltb _ _ (shift-none _ _ (c .if1 .left))
+over-at : (c : tie.Else2) → let t = c .before .before .before .before .before .before .before .before .before .args .t in ltb (t .above) (2 ^ t .width) ≡ true
+over-at c = lt-ltb _ _ (shift-none _ _ (c .if2 .left))
 
-below-at :
-    (c : tie.Else2) → let t = c .before .before .before .before .before .before .before .before .args .t in ltb (t .last) (2 ^ t .width) ≡ true
-below-at c = lt-ltb _ _ (shift-none _ _ (c .if2 .left))
+below-at : (c : tie.Else3) → let t = c .before .before .before .before .before .before .before .before .before .before .before .args .t in ltb (t .last) (2 ^ t .width) ≡ true
+below-at c = lt-ltb _ _ (shift-none _ _ (c .if3 .left))
 
-units-at :
-    (c : tie.Else3) → let t = c .before .before .before .before .before .before .before .before .before .before .args .t in
-    unitsFit (shapeOf (t .width) (t .height)) (t .units) (t .mark) ≡ true
-units-at c = sym (c .before .units-fit .ensures) ∙ not-false _ (c .if3 .left)
+units-at : (c : tie.Else4) → let a = c .before .before .before .before .before .before .before .before .before .before .before .before .before .before .args in unitsFit (shapeOf (a .kind) (a .t .width) (a .t .height)) (a .t .units) (a .t .mark) ≡ true
+units-at c = sym (c .before .units-fit .ensures) ∙ not-false _ (c .if4 .left)
+
+number-requires : tie.Need-number-requires
+number-requires c κs = search needs
+
+returns : tie.Need-returns
+unfolding checkpointFits
+returns c = simp (ne-eqb _ _ (rw (c .before .before .number .ensures) at (c .if1 .taken)))
 
 rule-of-requires : tie.Need-rule-of-requires
 rule-of-requires c κs = search needs
@@ -49,73 +55,94 @@ check-requires c κs = search needs
 enum-told : tie.Need-enum-told
 enum-told c = search needs
 
-returns : tie.Need-returns
+returns-2 : tie.Need-returns-2
 unfolding checkpointFits numbersFit
-returns c = simp (frame-misfits _ _ _ (sym (rw (c .before .before .before .rule-of .ensures) at (c .before .before .check .ensures)) ∙ ap checkSays (c .enum-told .given .1)))
+returns-2 c =
+    simp (
+      of-at (c .before .before .before .before),
+      frame-misfits _ _ _ (sym (rw (c .before .before .before .rule-of .ensures) at (c .before .before .check .ensures)) ∙ ap checkSays (c .enum-told .given .1)),
+    )
 
 enum-told-2 : tie.Need-enum-told-2
 enum-told-2 c = search needs
 
-shr-if1 : tie.Need-shr-if1
-shr-if1 c = omega (arith, size-at (c .before) .narrow)
-
-returns-2 : tie.Need-returns-2
-unfolding checkpointFits numbersFit
-returns-2 c = simp (frame-fits (frame-at (c .before .before)), le-ltb _ _ (shift-some _ _ (c .if1 .taken)))
-
 shr-if2 : tie.Need-shr-if2
-shr-if2 c = omega (arith, size-at (c .before .before .before) .narrow)
+shr-if2 c = omega (arith, size-at (c .before) .narrow)
 
 returns-3 : tie.Need-returns-3
 unfolding checkpointFits numbersFit
 returns-3 c =
     let d = c .before .before in
-    simp (frame-fits (frame-at (d .before .before)), over-at d, le-ltb _ _ (shift-some _ _ (c .if2 .taken)))
+    simp (of-at (d .before .before .before .before), frame-fits (frame-at d), le-ltb _ _ (shift-some _ _ (c .if2 .taken)))
 
-units-fit-requires : tie.Need-units-fit-requires
-units-fit-requires c κs = let s = size-at (c .before .before .before .before) in (s .narrow, s .low)
+shr-if3 : tie.Need-shr-if3
+shr-if3 c = omega (arith, size-at (c .before .before .before) .narrow)
 
 returns-4 : tie.Need-returns-4
 unfolding checkpointFits numbersFit
 returns-4 c =
-    simp (
-      frame-fits (frame-at (c .before .before .before .before .before .before)),
-      over-at (c .before .before .before .before),
-      below-at (c .before .before),
-      sym (c .before .units-fit .ensures) ∙ not-true _ (c .if3 .taken),
-    )
+    let e = c .before .before in
+    let d = e .before .before in
+    simp (of-at (d .before .before .before .before), frame-fits (frame-at d), over-at e, le-ltb _ _ (shift-some _ _ (c .if3 .taken)))
 
-rows-chosen-requires : tie.Need-rows-chosen-requires
-rows-chosen-requires c κs = let s = size-at (c .before .before .before .before .before .before) in (s .narrow, s .low)
+round-of-requires : tie.Need-round-of-requires
+round-of-requires c κs = let s = size-at (c .before .before .before .before) in (s .narrow, s .low)
 
-rows-fit-requires : tie.Need-rows-fit-requires
-rows-fit-requires c κs =
-    let d = c .before .before .before in
-    let s = size-at (d .before .before .before .before) in
-    (s .narrow, omega (arith, c .rows-chosen .ensures, chosen-le _ _ _ _ (Shape.units-at _ _ _ (units-at (c .before)))))
+units-fit-requires : tie.Need-units-fit-requires
+units-fit-requires c κs = let s = size-at (c .before .before .before .before .before) in (s .narrow, s .low, c .round-of .ensures)
 
 returns-5 : tie.Need-returns-5
 unfolding checkpointFits numbersFit
 returns-5 c =
-    let d = c .before .before .before .before in
-    rw (c .rows-fit .ensures, c .before .rows-chosen .ensures)
-    (simp (frame-fits (frame-at (d .before .before .before .before)), over-at (d .before .before), below-at d, units-at (c .before .before)))
+    let g = c .before .before .before in
+    let e = g .before .before in
+    let d = e .before .before in
+    simp (
+      of-at (d .before .before .before .before),
+      frame-fits (frame-at d),
+      over-at e,
+      below-at g,
+      sym (c .before .units-fit .ensures) ∙ not-true _ (c .if4 .taken),
+    )
+
+rows-chosen-requires : tie.Need-rows-chosen-requires
+rows-chosen-requires c κs =
+    let r = c .before .before in
+    (size-at (r .before .before .before .before .before) .some-row, r .round-of .ensures, units-at c)
+
+rows-fit-requires : tie.Need-rows-fit-requires
+rows-fit-requires c κs =
+    let s = size-at (c .before .before .before .before .before .before .before .before) in
+    (s .narrow, omega (arith, c .rows-chosen .ensures .1, s .low))
+
+returns-6 : tie.Need-returns-6
+unfolding checkpointFits numbersFit
+returns-6 c =
+    let u = c .before .before in
+    let g = u .before .before .before in
+    let e = g .before .before in
+    let d = e .before .before in
+    rw (c .rows-fit .ensures, c .before .rows-chosen .ensures .0)
+    (simp (of-at (d .before .before .before .before), frame-fits (frame-at d), over-at e, below-at g, units-at u))
 
 pub checkpoint-fits-spec : {M : Type 1} → statement M
 checkpoint-fits-spec =
     tie.close
     (tie.spec
+    number-requires
+    returns
     rule-of-requires
     check-requires
     enum-told
-    returns
-    enum-told-2
-    shr-if1
     returns-2
+    enum-told-2
     shr-if2
     returns-3
-    units-fit-requires
+    shr-if3
     returns-4
+    round-of-requires
+    units-fit-requires
+    returns-5
     rows-chosen-requires
     rows-fit-requires
-    returns-5)
+    returns-6)

@@ -10,7 +10,7 @@ use Rattle.job.proofs.numbers.job_fits.Statement.{statement}
 use Rattle.job.proofs.numbers.job_fits.Tie as tie
 
 -- past the test the numbers fit
-numbers-fit : (c : tie.Else1) → checkpointFits (numbersOf (c .before .before .before .args .job)) ≡ true
+numbers-fit : (c : tie.Else1) → checkpointFits (c .before .before .before .args .job .kind) (numbersOf (c .before .before .before .args .job)) ≡ true
 numbers-fit c = rw (c .before .before .numbers-of .ensures) at (sym (c .before .checkpoint-fits .ensures) ∙ not-false _ (c .if1 .left))
 
 numbers-of-requires : tie.Need-numbers-of-requires
@@ -24,7 +24,7 @@ unfolding jobFits
 returns c = simp (rw (c .before .before .numbers-of .ensures) at (sym (c .before .checkpoint-fits .ensures) ∙ not-true _ (c .if1 .taken)))
 
 stage-fits-requires : tie.Need-stage-fits-requires
-stage-fits-requires c κs = let s = numbers-at _ (numbers-fit c) .frame .size in (s .narrow, s .low)
+stage-fits-requires c κs = let s = numbers-at _ _ (numbers-fit c) .frame .size in (s .narrow, s .low)
 
 returns-2 : tie.Need-returns-2
 unfolding jobFits

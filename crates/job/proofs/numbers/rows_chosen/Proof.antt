@@ -1,26 +1,31 @@
--- `job::numbers::rows_chosen` meets its contract, by its tests: where the units are below the table's size the difference is 0.
+-- `job::numbers::rows_chosen` meets its contract: the rows chosen are the round.
 -- Assumes nothing.
+use mathlib.Core.Path.{_≡_, refl, sym}
+use Prim.Native.Nat.{ℕ, _≤_}
 use native.Mathlib.Omega.{arith}
-use borrow.Author.Needs.{needs}
 use borrow.Author.Tests.{eq-eqb, ne-eqb}
-use Rattle.elimination.specs.Shape.{rowsChosen}
+use Rattle.elimination.specs.Shape.{Shape, rowsChosen}
+use Rattle.elimination.proofs.Shape.{Units, runs, ends, fails, units-at}
+use Rattle.job.proofs.Shapes.{rows-round}
 use Rattle.job.proofs.numbers.rows_chosen.Statement.{statement}
 use Rattle.job.proofs.numbers.rows_chosen.Tie as tie
 
+-- units that fit a mark other than 2 are at most the length
+within : {S : Shape} {units mark : ℕ} → Units S units mark → (mark ≡ 2 → ⊥) → units ≤ S .boardLength
+within (runs l) n = omega arith
+within (ends e) n = omega arith
+within (fails e) n = absurd (n refl)
+
 returns : tie.Need-returns
 unfolding rowsChosen
-returns c = simp (eq-eqb _ 2 (c .if1 .taken))
-
-table-size-requires : tie.Need-table-size-requires
-table-size-requires c κs = search needs
+returns c = simp (eq-eqb _ 2 (c .if1 .taken)) (refl, omega arith)
 
 returns-2 : tie.Need-returns-2
 unfolding rowsChosen
-returns-2 c = simp (ne-eqb _ 2 (c .before .before .if1 .left)) (omega arith)
-
-returns-3 : tie.Need-returns-3
-unfolding rowsChosen
-returns-3 c = simp (ne-eqb _ 2 (c .before .before .if1 .left)) (omega arith)
+returns-2 c =
+    let s = c .before in
+    let p = s .pre in
+    simp (ne-eqb _ 2 (c .if1 .left)) (sym (rows-round (p .1) (p .0) (within (units-at _ _ _ (p .2)) (c .if1 .left))), p .1 .at .rows)
 
 pub rows-chosen-spec : {M : Type 1} → statement M
-rows-chosen-spec = tie.close (tie.spec returns table-size-requires returns-2 returns-3)
+rows-chosen-spec = tie.close (tie.spec returns returns-2)

@@ -2,12 +2,12 @@
 -- Assumes nothing.
 use mathlib.Core.Path.{sym}
 use borrow.Author.Needs.{needs}
-use Rattle.job.proofs.Shapes.{fills-is, chooses-is}
+use Rattle.job.proofs.Shapes.{fills-left, chooses-left}
 use Rattle.job.proofs.numbers.stage_fits.Statement.{statement}
 use Rattle.job.proofs.numbers.stage_fits.Tie as tie
 
-table-size-requires : tie.Need-table-size-requires
-table-size-requires c κs = search needs
+round-of-requires : tie.Need-round-of-requires
+round-of-requires c κs = search needs
 
 enum-told : tie.Need-enum-told
 enum-told c = search needs
@@ -22,10 +22,10 @@ enum-told-4 : tie.Need-enum-told-4
 enum-told-4 c = search needs
 
 returns : tie.Need-returns
-returns c = rw (c .before .before .table-size .ensures .0, c .enum-told .given .1) (sym (fills-is _ _ _))
+returns c = rw (c .before .enum-told .given .1) (sym (fills-left (c .before .before .before .round-of .ensures)))
 
 returns-2 : tie.Need-returns-2
-returns-2 c = rw (c .before .before .table-size .ensures .0, c .enum-told2 .given .1) (chooses-is _ _ _)
+returns-2 c = rw (c .before .enum-told2 .given .1) (chooses-left (c .before .before .before .round-of .ensures))
 
 returns-3 : tie.Need-returns-3
 returns-3 c = search needs
@@ -37,7 +37,7 @@ pub stage-fits-spec : {M : Type 1} → statement M
 stage-fits-spec =
     tie.close
     (tie.spec
-    table-size-requires
+    round-of-requires
     enum-told
     enum-told-2
     enum-told-3

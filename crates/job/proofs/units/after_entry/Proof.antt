@@ -3,21 +3,29 @@
 use native.Mathlib.Numerals.{add-one}
 use native.Mathlib.Omega.{arith}
 use borrow.Author.Needs.{needs}
+use Rattle.job.specs.Jobs.{stageOf}
 use Rattle.job.proofs.Next.{units-few}
 use Rattle.job.proofs.units.after_entry.Statement.{statement}
 use Rattle.job.proofs.units.after_entry.Tie as tie
 
-numbers-of-requires : tie.Need-numbers-of-requires
-numbers-of-requires c κs = search needs
+kept-in-requires : tie.Need-kept-in-requires
+kept-in-requires c κs = search needs
 
-add-t : tie.Need-add-t
-add-t c = let p = c .before .before .pre in rw (c .before .numbers-of .ensures) (omega (arith, units-few (p .0) (p .1) (p .2)))
+running-requires : tie.Need-running-requires
+running-requires c κs = search needs
 
-job-of-requires : tie.Need-job-of-requires
-job-of-requires c κs = let p = c .before .before .pre in rw (c .before .numbers-of .ensures) (p .0, p .1)
+add-t8 : tie.Need-add-t8
+add-t8 c =
+    let s = c .before .before .before .before in
+    let p = s .pre .0 in
+    omega (arith, units-few (s .args .job .kind) (p .0) (p .1) (p .2))
 
 returns : tie.Need-returns
-returns c = rw (c .job-of .ensures, c .before .before .numbers-of .ensures, add-one)
+unfolding stageOf
+returns c =
+    let r = c .before in
+    let k = r .before .kept-in .ensures in
+    rw (r .running .ensures, k .0, k .1, k .2, r .before .before .before .pre .1, add-one)
 
 pub after-entry-spec : {M : Type 1} → statement M
-after-entry-spec = tie.close (tie.spec numbers-of-requires add-t job-of-requires returns)
+after-entry-spec = tie.close (tie.spec kept-in-requires running-requires add-t8 returns)

@@ -11,7 +11,7 @@ numbers-of-requires : tie.Need-numbers-of-requires
 numbers-of-requires c κs = search needs
 
 add-t : tie.Need-add-t
-add-t c = let p = c .before .before .pre in rw (c .before .numbers-of .ensures) (omega (arith, units-few (p .0) (p .1) (p .2)))
+add-t c = let p = c .before .before .pre in rw (c .before .numbers-of .ensures) (omega (arith, units-few (c .before .before .args .job .kind) (p .0) (p .1) (p .2)))
 
 job-of-requires : tie.Need-job-of-requires
 job-of-requires c κs = let p = c .before .before .pre in rw (c .before .numbers-of .ensures) (p .0, p .1)

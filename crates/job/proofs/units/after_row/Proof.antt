@@ -34,14 +34,14 @@ returns-3 c =
       lt-leb _ _ (rw (d .before .before .numbers-of .ensures) at (c .if3 .taken)),
     )
 
-add-t8 : tie.Need-add-t8
-add-t8 c =
+add-t9 : tie.Need-add-t9
+add-t9 c =
     let d = c .before .before .before .before .before in
     let p = d .before .pre in
-    rw (d .numbers-of .ensures) (omega (arith, units-few (p .0) (p .1) (p .2)))
+    rw (d .numbers-of .ensures) (omega (arith, units-few (d .before .args .job .kind) (p .0) (p .1) (p .2)))
 
-add-t10 : tie.Need-add-t10
-add-t10 c =
+add-t11 : tie.Need-add-t11
+add-t11 c =
     let e = c .before .before in
     let d = e .before .before in
     let p = d .before .before .before .pre in
@@ -49,8 +49,9 @@ add-t10 c =
 
 mark-after-requires : tie.Need-mark-after-requires
 mark-after-requires c κs =
-    let p = c .before .before .before .before .before .before .before .pre in
-    omega (arith, p .3, units-few (p .0) (p .1) (p .2))
+    let s = c .before .before .before .before .before .before .before in
+    let p = s .pre in
+    omega (arith, p .3, units-few (s .args .job .kind) (p .0) (p .1) (p .2))
 
 job-of-requires : tie.Need-job-of-requires
 job-of-requires c κs = search needs
@@ -80,8 +81,8 @@ after-row-spec =
     returns-2
     mul-if3
     returns-3
-    add-t8
-    add-t10
+    add-t9
+    add-t11
     mark-after-requires
     job-of-requires
     returns-4)

@@ -67,14 +67,17 @@ returns-3 c =
     let d = c .before .before in
     simp (job-at (d .before .before .before), marks-at d, sym (c .before .has-length .ensures) ∙ not-true _ (c .if1 .taken))
 
+layers-requires : tie.Need-layers-requires
+layers-requires c κs = search needs
+
 check-table-requires : tie.Need-check-table-requires
 check-table-requires c κs = search needs
 
 returns-4 : tie.Need-returns-4
 unfolding workCheck lentCheck
 returns-4 c =
-    let d = c .before in
-    simp (job-at (d .before .before .before .before .before), marks-at (d .before .before), board-at d, c .check-table .ensures)
+    let d = c .before .before in
+    simp (job-at (d .before .before .before .before .before), marks-at (d .before .before), board-at d, rw (c .before .layers .ensures) at (c .check-table .ensures))
 
 pub check-work-spec : {M : Type 1} → statement M
 check-work-spec =
@@ -90,5 +93,6 @@ check-work-spec =
     enum-told-2
     has-length-requires
     returns-3
+    layers-requires
     check-table-requires
     returns-4)

@@ -50,7 +50,7 @@ returns c =
     let s = b .before .before .before .before in
     let L = s .pre .1 in
     let D = due-at _ _ (sym (b .task .ensures) ∙ ap taskOf (d .after .given .1)) in
-    let R = lent-read L (D .plans) in
+    let R = lent-read L (D .running) (D .plans) in
     moves-fill _ _ _ _ (L .taken) (D .running) (D .plans) _ (c .after2 .ensures) _
     (rw (f .before .before .most-live .ensures) at (f .fill .ensures) ∙ filled _ _ (s .pre .0) _ _ _ _ _ _ _ _ (R .0) (R .1))
 

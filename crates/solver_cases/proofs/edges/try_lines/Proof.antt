@@ -17,14 +17,8 @@ loop-holds c = search needs
 of-group-requires : tie.Need-of-group-requires Inv-loop μ-loop
 of-group-requires c κs = search needs
 
-sized-requires : tie.Need-sized-requires Inv-loop μ-loop
-sized-requires c κs = search needs
-
 try-number-requires : tie.Need-try-number-requires Inv-loop μ-loop
 try-number-requires c κs = search needs
-
-sized-requires-2 : tie.Need-sized-requires-2 Inv-loop μ-loop
-sized-requires-2 c κs = search needs
 
 try-number-requires-2 : tie.Need-try-number-requires-2 Inv-loop μ-loop
 try-number-requires-2 c κs = search needs
@@ -52,9 +46,7 @@ try-lines-spec =
     μ-loop
     loop-holds
     of-group-requires
-    sized-requires
     try-number-requires
-    sized-requires-2
     try-number-requires-2
     add-number
     loop-less

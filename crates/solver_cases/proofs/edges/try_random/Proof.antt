@@ -20,14 +20,11 @@ below-requires c κs = search needs
 of-group-requires : tie.Need-of-group-requires Inv-loop μ-loop
 of-group-requires c κs = search needs
 
-add-sized : tie.Need-add-sized Inv-loop μ-loop
-add-sized c = search needs
+add-try-number : tie.Need-add-try-number Inv-loop μ-loop
+add-try-number c = search needs
 
-add-sized-2 : tie.Need-add-sized-2 Inv-loop μ-loop
-add-sized-2 c = search needs
-
-sized-requires : tie.Need-sized-requires Inv-loop μ-loop
-sized-requires c κs = search needs
+add-try-number-2 : tie.Need-add-try-number-2 Inv-loop μ-loop
+add-try-number-2 c = search needs
 
 try-number-requires : tie.Need-try-number-requires Inv-loop μ-loop
 try-number-requires c κs = search needs
@@ -56,9 +53,8 @@ try-random-spec =
     loop-holds
     below-requires
     of-group-requires
-    add-sized
-    add-sized-2
-    sized-requires
+    add-try-number
+    add-try-number-2
     try-number-requires
     add-k
     loop-less

@@ -6,10 +6,10 @@ use Rattle.solver_cases.proofs.forged.try_jobs.Statement.{statement}
 use Rattle.solver_cases.proofs.forged.try_jobs.Tie as tie
 
 abbrev Inv-loop : tie.InvT-loop
-Inv-loop name group t₀ k₀ t k = k ≤ 6000
+Inv-loop name kind group t₀ k₀ t k = k ≤ 6000
 
 abbrev μ-loop : tie.MeasureT-loop
-μ-loop name group t₀ k₀ t k = 6000 - k
+μ-loop name kind group t₀ k₀ t k = 6000 - k
 
 loop-holds : tie.Need-loop-holds Inv-loop μ-loop
 loop-holds c = search needs
