@@ -1,6 +1,6 @@
 -- Laws of the rules of an entry and of a choice: what a candidate that offers something is, and that the rules ask only the numbers of rows.
 -- Assumes nothing.
-use mathlib.Core.Path.{_≡_, refl}
+use mathlib.Core.Path.{_≡_, refl, sym, _∙_, ap}
 use mathlib.Core.Bool.{Bool, true, false, cond}
 use mathlib.Core.Option.{some}
 use Prim.Native.Nat.{ℕ, zero, suc, _<_}
@@ -62,3 +62,8 @@ module _ {X : Type 0} (G : Kind X) where
       go : (t : Bool) (c : ℕ) → f c ≡ g c → offerIf G t k f c ≡ offerIf G t k g c
       go true c p = rw p
       go false c p = refl
+
+  -- and so does an entry
+  pub entry-ext : (k a b : ℕ) (f g : ℕ → X) → ((c : ℕ) → c < G .codes → f c ≡ g c) → entry G k a b f ≡ entry G k a b g
+  entry-ext zero a b f g e = entry-last a b f ∙ sym (entry-last a b g)
+  entry-ext (suc k) a b f g e = entry-more k a b f ∙ ap (worthOf (G .absent)) (choose-ext k a b f g e) ∙ sym (entry-more k a b g)

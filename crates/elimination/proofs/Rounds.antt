@@ -1,12 +1,13 @@
 -- The plans of the shapes go in rounds; and what a unit does, by its round.
 -- Assumes nothing.
-use mathlib.Core.Path.{_≡_, refl, sym, _∙_, ap}
+use mathlib.Core.Path.{_≡_, refl, sym, _∙_, ap, ap₂}
 use mathlib.Core.Bool.{false}
 use mathlib.Core.Logic.{⊎-elim}
 use Prim.Native.Nat.{ℕ, zero, suc, _+_, _-_, _*_, _/_, _%_, _≤_, _<_}
-use native.Mathlib.Nat.{zero-add, add-zero, mul-le-mul, mul-le-mul-right, mod-lt, div-lt-iff-lt-mul, eq-or-lt-of-le}
+use native.Mathlib.Nat.{zero-add, add-zero, mul-le-mul, mul-le-mul-right, mod-lt, zero-mod, mul-mod-left, div-add-mod', div-lt-iff-lt-mul, eq-or-lt-of-le}
 use native.Mathlib.Omega.{arith}
 use borrow.Author.Tests.{lt-ltb, le-ltb}
+use lib.Arith.{digits-div, digits-mod}
 use lib.Dec.{ltb}
 use Rattle.elimination.specs.Task.{fill, row, isFill}
 use Rattle.elimination.specs.Plan.{Schedule}
@@ -111,6 +112,44 @@ module _ {q : ℕ} {S : Shape} {C : Schedule} (R : Rounds q S C) where
       go (chooses a b is) = row-not-fill (sym is ∙ p)
       go (rests a b) = absurd (omega (arith, L .before))
 
+  -- what a layer has left is filled by the next units
+  pub fill-run : {u k source target j : ℕ} → 0 < q → u < S .boardLength → S .plan u ≡ fill k source target j → (i : ℕ) → j + i < q
+      → (S .plan (u + i) ≡ fill k source target (j + i)) × (u + i < S .boardLength)
+  fill-run {u} {k} {source} {target} {j} some l p i b = go (does (L .at))
+    where
+      L : Located u
+      L = located l
+
+      r : ℕ
+      r = L .round
+
+      m : ℕ
+      m = L .place
+
+      go : Does u (L .round) (L .place) → (S .plan (u + i) ≡ fill k source target (j + i)) × (u + i < S .boardLength)
+      go (fills a c is) =
+          let e : roundFill (S .rows) q (C .source) m ≡ fill k source target j = sym is ∙ p in
+          let ek : m / q ≡ k = cc in
+          let es : C .source (S .rows - m / q) ≡ source = cc in
+          let et : C .source (S .rows - 1 - m / q) ≡ target = cc in
+          let ej : m % q ≡ j = cc in
+          let inside : m % q + i < q = rw ej b in
+          let n : C .work r / q * q ≡ C .work r = omega (arith, div-add-mod' (C .work r) q, R .layers r) in
+          let few : m / q < C .work r / q = div-lt-iff-lt-mul some .1 (omega (arith, c, n)) in
+          let whole : suc (m / q) * q ≤ C .work r / q * q = mul-le-mul-right q few in
+          let at : m + i ≡ m / q * q + (m % q + i) = omega (arith, div-add-mod' m q) in
+          let within : m + i < C .work r = omega (arith, at, inside, whole, n) in
+          let d : (m + i) / q ≡ m / q = ap (λ (x : ℕ). x / q) at ∙ digits-div (m / q) inside in
+          let f : (m + i) % q ≡ m % q + i = ap (λ (x : ℕ). x % q) at ∙ digits-mod (m / q) inside in
+          let I : InRound (S .rows) C (u + i) r (m + i) = record { rows = L .at .rows; is = omega (arith, L .at .is); within = λ z. omega (arith, within) } in (
+            ap (S .plan) (I .is) ∙ R .fills r (m + i) a within
+                ∙ ap₂ (λ (x y : ℕ). fill x (C .source (S .rows - x)) (C .source (S .rows - 1 - x)) y) d f
+                ∙ cc,
+            until I a,
+          )
+      go (chooses a c is) = row-not-fill (sym is ∙ p)
+      go (rests a c) = absurd (omega (arith, L .before))
+
   pub record RowAt (r source : ℕ) : Type 0 where
     pub one : r < S .rows
     pub layer : source + q ≤ S .entries
@@ -168,6 +207,7 @@ module _ (codes h most : ℕ) where
   whole-rounds = record {
     scheduled = Wholes.scheduled h q;
     fills = fills;
+    layers = layers-of;
     most = most-of;
     inside = λ r l. let a : suc r * q ≤ h * q = mul-le-mul-right q l in omega arith;
     past = λ u l. ap isFill (Wholes.plan-late h q u (omega arith));
@@ -178,6 +218,10 @@ module _ (codes h most : ℕ) where
       fills : (r m : ℕ) → r < h → m < Whole.fillsBefore h q r → Whole.plan h q (Whole.startOf h q r + m) ≡ roundFill h q (λ i. i * q) m
       fills zero m l b = ap (Whole.plan h q) (zero-add m) ∙ Wholes.plan-fill h q m b
       fills (suc r) m l b = absurd (omega arith)
+
+      layers-of : (r : ℕ) → Whole.fillsBefore h q r % q ≡ 0
+      layers-of zero = mul-mod-left h q
+      layers-of (suc r) = zero-mod q
 
       most-of : (r : ℕ) → Whole.fillsBefore h q r ≤ h * q
       most-of zero = omega arith
@@ -191,6 +235,7 @@ module _ (codes h most : ℕ) where
   two-rounds wide = record {
     scheduled = Twos.scheduled h q some;
     fills = fills;
+    layers = λ r. mul-mod-left (h - r) q;
     most = λ r. mul-le-mul-right q (omega arith);
     inside = λ r l. let a : suc ((r + 1) % 2) * q ≤ 2 * q = mul-le-mul-right q (mod-lt (r + 1) (omega arith)) in omega arith;
     past = λ u l. Twos.plan-past h q u l;

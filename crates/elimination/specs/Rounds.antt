@@ -19,11 +19,12 @@ pub record InRound (h : ℕ) (C : Schedule) (u r m : ℕ) : Type 0 where
 abbrev pub roundFill : ℕ → ℕ → (ℕ → ℕ) → ℕ → Task
 roundFill h q source m = fill (m / q) (source (h - m / q)) (source (h - 1 - m / q)) (m % q)
 
--- The plan of a shape goes in the rounds of a schedule, with q entries to a layer: each fills from the last layer on, at most all of them; what it fills and
--- reads lies within the table; and the job ends with the last of them.
+-- The plan of a shape goes in the rounds of a schedule, with q entries to a layer: each fills whole layers, from the last one on, at most all of them; what it
+-- fills and reads lies within the table; and the job ends with the last of them.
 pub record Rounds (q : ℕ) (S : Shape) (C : Schedule) : Type 0 where
   pub scheduled : Scheduled (S .rows) (S .plan) C
   pub fills : (r m : ℕ) → r < S .rows → m < C .work r → S .plan (C .start r + m) ≡ roundFill (S .rows) q (C .source) m
+  pub layers : (r : ℕ) → C .work r % q ≡ 0
   pub most : (r : ℕ) → C .work r ≤ S .rows * q
   pub inside : (r : ℕ) → r < S .rows → C .source r + q ≤ S .entries
   pub past : (u : ℕ) → S .boardLength ≤ u → isFill (S .plan u) ≡ false

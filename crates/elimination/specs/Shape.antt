@@ -37,6 +37,10 @@ pub record Numbers : Type 0 where
 abbrev pub afterEntry : Numbers → Numbers
 afterEntry n = record { units = suc (n .units); above = n .above; last = n .last; live = n .live; mark = 0 }
 
+-- and after m units that each fill an entry
+abbrev pub afterEntries : ℕ → Numbers → Numbers
+afterEntries m n = record { units = n .units + m; above = n .above; last = n .last; live = n .live; mark = 0 }
+
 -- row c of h is chosen with r rows above it, and all are then worth `live`
 abbrev pub afterRow : ℕ → ℕ → ℕ → ℕ → Numbers → Numbers
 afterRow h r c live n = record { units = suc (n .units); above = n .last; last = c; live = live; mark = cond (ltb (suc r) h) 0 1 }

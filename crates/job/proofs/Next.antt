@@ -1,27 +1,30 @@
--- The task that is due, and the job after a unit.
+-- The task that is due, and the job after a unit and after so many entries.
 -- Assumes nothing.
-use mathlib.Core.Path.{_≡_, refl, sym, _∙_, ap}
-use mathlib.Core.Bool.{Bool, true, false, cond, _&&_}
+use mathlib.Core.Path.{_≡_, refl, sym, _∙_, ap, ap₂}
+use mathlib.Core.Bool.{Bool, true, false, cond, not, _&&_}
 use mathlib.Core.Option.{Option, none, some}
 use Prim.Native.Nat.{ℕ, zero, suc, _+_, _*_, _^_, _≤_, _<_}
-use native.Mathlib.Nat.{mul-le-mul-left}
+use native.Mathlib.Nat.{add-zero, mul-le-mul-left}
+use native.Mathlib.Numerals.{add-one}
 use native.Mathlib.Omega.{arith}
-use borrow.Author.Tests.{lt-ltb, le-ltb, le-leb, ltb-true, leb-true, eqb-true}
+use borrow.Author.Tests.{lt-ltb, le-ltb, le-leb, ltb-true, leb-true, eqb-true, eq-eqb, ne-eqb}
 use lib.Dec.{eqb, leb, ltb}
 use Rattle.board.specs.Boards.{maxWidth, maxHeight}
 use Rattle.board.proofs.Tests.{and-left, and-right}
-use Rattle.elimination.specs.Task.{Task, fill, row}
-use Rattle.elimination.specs.Shape.{Shape, afterEntry, afterRow, afterNone}
+use Rattle.board.proofs.Search.{all-of, all-false}
+use Rattle.elimination.specs.Task.{Task, row, isFill}
+use Rattle.elimination.specs.Shape.{Shape, Numbers, afterEntry, afterEntries, afterRow, afterNone}
 use Rattle.elimination.specs.Rounds.{roundFill}
 use Rattle.elimination.proofs.Shape.{Units, runs, ends, fails}
-use Rattle.job.specs.Jobs.{boardLength, afterChoice, shapeOf, layerStart, aboveOf, lastOf, liveOf, markOf, numbersOf, numbersIn, jobFits, runsWithin, taskDue, jobWith, afterTask, afterUnit}
+use Rattle.job.specs.Jobs.{boardLength, afterChoice, shapeOf, layerStart, aboveOf, lastOf, liveOf, markOf, numbersOf, numbersIn, jobFits, stageOf, jobOf, runsWithin, taskDue, numbersWith, jobWith, afterTask, afterUnit, fillsNext, afterFills}
 use Rattle.job.specs.Inner.{RoundIs}
 use Rattle.job.specs.declared.Kind.{Kind}
 use Rattle.job.specs.declared.shape.Round.{Round}
+use Rattle.job.specs.declared.Stage.{Stage}
 use Rattle.job.specs.declared.Job.{Job}
 use Rattle.job.specs.declared.Chosen.{Chosen}
-use Rattle.job.proofs.Shapes.{length-le, row-early, fills-entry, chooses-row, rows-spent}
-use Rattle.job.proofs.Fits.{numbers-at, fits-numbers, fits-frame}
+use Rattle.job.proofs.Shapes.{length-le, row-early, fills-entry, fills-on, chooses-row, rows-spent}
+use Rattle.job.proofs.Fits.{jobAt, numbers-at, fits-numbers, fits-frame, job-back}
 use Rattle.job.proofs.Checkpoints.{chosen-le}
 
 none-some : {A : Type 0} {x : A} → none ≡ some x → _≡_ {A = ℕ} 0 1
@@ -60,6 +63,9 @@ module _ (j : Job) where
       let p = and-left (a && b) m e in
       (leb-true (j .width) maxWidth (and-left a b p), leb-true (j .height) maxHeight (and-right a b p), eqb-true (markOf (j .stage)) 0 (and-right (a && b) m e))
 
+  runs-by : j .width ≤ maxWidth → j .height ≤ maxHeight → markOf (j .stage) ≡ 0 → runsWithin j ≡ true
+  runs-by a b m = rw (le-leb (j .width) maxWidth a, le-leb (j .height) maxHeight b, m)
+
   pub due-at : (o : Task) → taskDue j ≡ some o → Due j o
   unfolding taskDue
   due-at o e =
@@ -82,9 +88,7 @@ module _ (j : Job) where
   due-never e = rw e
 
   pub due-by : j .width ≤ maxWidth → j .height ≤ maxHeight → markOf (j .stage) ≡ 0 → j .units < long → taskDue j ≡ some next
-  due-by a b m l =
-      let e : runsWithin j ≡ true = rw (le-leb (j .width) maxWidth a, le-leb (j .height) maxHeight b, m) in
-      due-while e ∙ rw (lt-ltb (j .units) long l)
+  due-by a b m l = due-while (runs-by a b m) ∙ rw (lt-ltb (j .units) long l)
 
   -- ---- the job after its task
   after-task : {o : Option Task} → taskDue j ≡ o → (chosen : Chosen) → afterUnit j chosen ≡ afterTask o j chosen
@@ -96,11 +100,12 @@ module _ (j : Job) where
 
   -- by its round
   module _ (e : runsWithin j ≡ true) {x : Round} (R : RoundIs (j .kind) (j .width) (j .height) (j .units) x) (chosen : Chosen) where
-    pub after-fills : (x .left ≡ 0 → ⊥) → jobWith j (afterEntry (numbersIn (numbersOf j))) ≡ afterUnit j chosen
+    pub after-fills : (x .left ≡ 0 → ⊥) → jobWith j (afterEntries 1 (numbersIn (numbersOf j))) ≡ afterUnit j chosen
     after-fills f =
         let F = fills-entry R f in
         let d : taskDue j ≡ some (roundFill (j .height) (4 ^ j .width) (layerStart (j .kind) (j .width)) (x .place)) = due-while e ∙ rw (lt-ltb (j .units) long (F .1), F .2) in
-        sym (after-task d chosen)
+        let one : jobWith j (afterEntries 1 (numbersIn (numbersOf j))) ≡ jobWith j (afterEntry (numbersIn (numbersOf j))) = rw (add-one (j .units)) in
+        one ∙ sym (after-task d chosen)
 
     pub after-chooses : x .left ≡ 0 → x .rows < j .height → afterChoice (shapeOf (j .kind) (j .width) (j .height)) (x .rows) j chosen ≡ afterUnit j chosen
     after-chooses f l =
@@ -112,6 +117,47 @@ module _ (j : Job) where
     after-spent l =
         let d : taskDue j ≡ none = due-while e ∙ rw (le-ltb (j .units) long (rows-spent R l)) in
         sym (after-task d chosen)
+
+  -- ---- the job after so many entries
+  abbrev fillsAt : ℕ → Bool
+  fillsAt i = isFill (shapeOf (j .kind) (j .width) (j .height) .plan (j .units + i))
+
+  abbrev ran : ℕ → Job
+  ran n = jobWith j (afterEntries n (numbersIn (numbersOf j)))
+
+  module _ (n : ℕ) where
+    pub entries-never : runsWithin j ≡ false → j ≡ afterFills n j
+    unfolding afterFills fillsNext
+    entries-never e = rw e
+
+    entries-done : runsWithin j ≡ true → ((i : ℕ) → i < n → fillsAt i ≡ true) → ran n ≡ afterFills n j
+    unfolding afterFills fillsNext
+    entries-done e f = rw (e, all-of fillsAt n f)
+
+    -- by its round
+    module _ (e : runsWithin j ≡ true) {x : Round} (R : RoundIs (j .kind) (j .width) (j .height) (j .units) x) where
+      pub entries-left : n ≤ x .left → ran n ≡ afterFills n j
+      entries-left l = entries-done e (λ i b. fills-on R i (omega arith) ∙ ap not (ne-eqb (x .left) i (λ z. omega arith)))
+
+      pub entries-few : x .left < n → j ≡ afterFills n j
+      unfolding afterFills fillsNext
+      entries-few l = rw (e, all-false fillsAt n (x .left) l (fills-on R (x .left) (omega arith) ∙ ap not (eq-eqb (x .left) (x .left) refl)))
+
+  -- its numbers; and one entry more
+  pub entries-here : (n : ℕ) → numbersIn (numbersOf (ran n)) ≡ afterEntries n (numbersIn (numbersOf j))
+  unfolding stageOf
+  entries-here n = go (fillsAt n)
+    where
+      go : (b : Bool) → numbersIn (numbersOf (jobAt (j .kind) (j .rule) (j .width) (j .height) (j .units + n)
+          (cond b (Stage.Filling (aboveOf (j .stage)) (lastOf (j .stage)) (liveOf (j .stage))) (Stage.Choosing (aboveOf (j .stage)) (lastOf (j .stage)) (liveOf (j .stage))))))
+          ≡ afterEntries n (numbersIn (numbersOf j))
+      go true = refl
+      go false = refl
+
+  pub entries-more : (n : ℕ) → jobWith (ran n) (afterEntry (numbersIn (numbersOf (ran n)))) ≡ ran (suc n)
+  entries-more n =
+      let e : suc (j .units + n) ≡ j .units + suc n = omega arith in
+      ap (λ (x : Numbers). jobWith j (afterEntry x)) (entries-here n) ∙ rw e
 
   -- the rows of a round are at most the units done
   pub rows-early : {x : Round} → RoundIs (j .kind) (j .width) (j .height) (j .units) x → x .left ≡ 0 → x .rows < j .height → x .rows ≤ j .units
@@ -153,6 +199,17 @@ module _ (j : Job) (f : jobFits j ≡ true) where
   pub due-running : markOf (j .stage) ≡ 0 → taskDue j ≡ some (shapeOf (j .kind) (j .width) (j .height) .plan (j .units))
   due-running m = due-by j (fits-size .0) (fits-size .1) m (fits-until m)
 
+  -- so many entries are filled where each of the next units fills one
+  pub after-run : markOf (j .stage) ≡ 0 → (n : ℕ) → ((i : ℕ) → i < n → fillsAt j i ≡ true) → afterFills n j ≡ ran j n
+  after-run m n r = sym (entries-done j n (runs-by j (fits-size .0) (fits-size .1) m) r)
+
+  -- none at all leave it as it is
+  pub entries-none : markOf (j .stage) ≡ 0 → ran j 0 ≡ j
+  entries-none m = ap₂ (λ (u k : ℕ). jobOf (j .kind) (numbersWith j (numbersFor u k))) (add-zero (j .units)) (sym m) ∙ job-back j f
+    where
+      numbersFor : ℕ → ℕ → Numbers
+      numbersFor u k = record { units = u; above = aboveOf (j .stage); last = lastOf (j .stage); live = liveOf (j .stage); mark = k }
+
   -- and without a task it has ended
   pub due-none : taskDue j ≡ none → markOf (j .stage) ≡ 0 → ⊥
   due-none e m = let z : _≡_ {A = ℕ} 0 1 = none-some (sym e ∙ due-running m) in omega arith
@@ -161,10 +218,6 @@ module _ (j : Job) (f : jobFits j ≡ true) where
   module _ (m : markOf (j .stage) ≡ 0) where
     after-due : {o : Task} → shapeOf (j .kind) (j .width) (j .height) .plan (j .units) ≡ o → (chosen : Chosen) → afterUnit j chosen ≡ afterTask (some o) j chosen
     after-due p chosen = after-task j (due-running m ∙ ap some p) chosen
-
-    pub after-entry : {k source target i : ℕ} → shapeOf (j .kind) (j .width) (j .height) .plan (j .units) ≡ fill k source target i → (chosen : Chosen)
-        → afterUnit j chosen ≡ jobWith j (afterEntry (numbersIn (numbersOf j)))
-    after-entry p chosen = after-due p chosen
 
     pub after-row : {r source : ℕ} → shapeOf (j .kind) (j .width) (j .height) .plan (j .units) ≡ row r source → (c x : ℕ) → c < 2 ^ j .width → x ≤ j .width
         → afterUnit j (Chosen.Row c x) ≡ jobWith j (afterRow (j .height) r c (x + liveOf (j .stage)) (numbersIn (numbersOf j)))

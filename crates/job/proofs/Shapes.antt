@@ -3,8 +3,9 @@
 -- Assumes nothing.
 use mathlib.Core.Path.{_≡_, refl, sym, _∙_, ap, ap₂, subst}
 use mathlib.Core.Bool.{Bool, true, false, not}
+use mathlib.Core.Logic.{⊎-elim}
 use Prim.Native.Nat.{ℕ, zero, suc, _+_, _-_, _*_, _/_, _^_, _≤_, _<_}
-use native.Mathlib.Nat.{mul-le-mul, mul-le-mul-left, mul-le-mul-right}
+use native.Mathlib.Nat.{add-zero, mul-le-mul, mul-le-mul-left, mul-le-mul-right}
 use native.Mathlib.Omega.{arith}
 use borrow.Author.Tests.{ltb-true, ltb-false, eqb-true, eqb-false, lt-ltb, le-ltb, eq-eqb, ne-eqb}
 use lib.Dec.{eqb, ltb}
@@ -18,10 +19,11 @@ use Rattle.elimination.specs.FillThenChoose as Whole
 use Rattle.elimination.specs.TwoLayers as Two
 use Rattle.elimination.specs.Shape.{Shape, ShapeLaws, entriesFilled, whole, twoLayers}
 use Rattle.elimination.specs.Rounds.{InRound, roundFill, Rounds}
+use Rattle.elimination.proofs.Numbers.{lt-or-ge}
 use Rattle.elimination.proofs.FillThenChoose as Wholes
 use Rattle.elimination.proofs.TwoLayers as Twos
 use Rattle.elimination.proofs.Shape.{units-split, whole-lawful, two-lawful}
-use Rattle.elimination.proofs.Rounds.{Does, fills, chooses, rests, does, until, fills-until, row-at, chosen-round, whole-rounds, two-rounds}
+use Rattle.elimination.proofs.Rounds.{Does, fills, chooses, rests, does, until, fills-until, round-past, row-at, chosen-round, whole-rounds, two-rounds}
 use Rattle.job.specs.Jobs.{kindNumber, boardLength, noneLength, planOf, chosenIn, shapeOf, roundWork, layerStart, courseOf}
 use Rattle.job.specs.Calls.{RowsAreChoosingUnits}
 use Rattle.job.specs.Inner.{RoundIs}
@@ -149,13 +151,13 @@ row-early kind w h {u} {r} {source} l p = go h refl
         omega (arith, rows-are-choosing-units kind w h u high (omega arith), shape-lawful w h kind high .chooses u r source l p .0)
 
 -- ---- what a unit's round says of it
--- another entry is left where more than one is
-another : (m n work : ℕ) → m + n ≡ work → (n ≡ 0 → ⊥) → ltb (suc m) work ≡ not (eqb n 1)
-another m n work e some = go (eqb n 1) refl
+-- n places on, entries are left where more than n are
+left-on : (m n left work : ℕ) → m + left ≡ work → n ≤ left → ltb (m + n) work ≡ not (eqb left n)
+left-on m n left work e l = go (eqb left n) refl
   where
-    go : (b : Bool) → eqb n 1 ≡ b → ltb (suc m) work ≡ not (eqb n 1)
-    go true q = le-ltb (suc m) work (omega (arith, eqb-true n 1 q)) ∙ sym (ap not q)
-    go false q = let f : n ≡ 1 → ⊥ = eqb-false n 1 q in lt-ltb (suc m) work (omega (arith, e, some, f)) ∙ sym (ap not q)
+    go : (b : Bool) → eqb left n ≡ b → ltb (m + n) work ≡ not (eqb left n)
+    go true q = le-ltb (m + n) work (omega (arith, eqb-true left n q)) ∙ sym (ap not q)
+    go false q = let f : left ≡ n → ⊥ = eqb-false left n q in lt-ltb (m + n) work (omega (arith, e, l, f)) ∙ sym (ap not q)
 
 module _ {kind : Kind} {w h u : ℕ} {x : Round} (R : RoundIs kind w h u x) where
   abbrev S : Rounds (4 ^ w) (shapeOf kind w h) (courseOf kind w h)
@@ -179,14 +181,19 @@ module _ {kind : Kind} {w h u : ℕ} {x : Round} (R : RoundIs kind w h u x) wher
       go (chooses a b p) = (until S (R .at) l, p)
       go (rests e p) = absurd (omega arith)
 
-  -- the unit fills exactly where an entry is left
+  -- the unit n entries on fills exactly where more than n are left
+  at-on : (n : ℕ) → n ≤ x .left → InRound h (courseOf kind w h) (u + n) (x .rows) (x .place + n)
+  at-on n l = record { rows = R .at .rows; is = omega (arith, R .at .is); within = λ z. omega (arith, R .rest z) }
+
+  pub fills-on : (n : ℕ) → n ≤ x .left → isFill (shapeOf kind w h .plan (u + n)) ≡ not (eqb (x .left) n)
+  fills-on n l =
+      ⊎-elim
+      (λ (a : x .rows < h). fills-until S (at-on n l) a ∙ left-on (x .place) n (x .left) (roundWork kind w h (x .rows)) (R .rest a) l)
+      (λ (a : h ≤ x .rows). round-past S (at-on n l) a ∙ sym (ap not (eq-eqb (x .left) n (omega (arith, R .past a)))))
+      (lt-or-ge (x .rows) h)
+
   pub fills-left : isFill (shapeOf kind w h .plan u) ≡ not (eqb (x .left) 0)
-  fills-left = go (does S (R .at))
-    where
-      go : Does S u (x .rows) (x .place) → isFill (shapeOf kind w h .plan u) ≡ not (eqb (x .left) 0)
-      go (fills l b p) = ap isFill p ∙ sym (ap not (ne-eqb (x .left) 0 (λ z. omega (arith, R .rest l))))
-      go (chooses l b p) = ap isFill p ∙ sym (ap not (eq-eqb (x .left) 0 (omega (arith, R .rest l))))
-      go (rests e p) = S .past u (omega arith) ∙ sym (ap not (eq-eqb (x .left) 0 (R .past (omega arith))))
+  fills-left = ap (λ (v : ℕ). isFill (shapeOf kind w h .plan v)) (sym (add-zero u)) ∙ fills-on 0 (omega arith)
 
   pub chooses-left : eqb (x .left) 0 ≡ not (isFill (shapeOf kind w h .plan u))
   chooses-left = not-not (eqb (x .left) 0) ∙ ap not (sym fills-left)
@@ -195,16 +202,13 @@ module _ {kind : Kind} {w h u : ℕ} {x : Round} (R : RoundIs kind w h u x) wher
       not-not true = refl
       not-not false = refl
 
-  -- and the next one where another is
-  pub fills-next : (x .left ≡ 0 → ⊥) → isFill (shapeOf kind w h .plan (suc u)) ≡ not (eqb (x .left) 1)
-  fills-next n = go (does S (R .at))
-    where
-      go : Does S u (x .rows) (x .place) → isFill (shapeOf kind w h .plan (suc u)) ≡ not (eqb (x .left) 1)
-      go (fills l b p) =
-          let I : InRound h (courseOf kind w h) (suc u) (x .rows) (suc (x .place)) = record { rows = R .at .rows; is = omega (arith, R .at .is); within = λ z. b } in
-          fills-until S I l ∙ another (x .place) (x .left) (roundWork kind w h (x .rows)) (R .rest l) n
-      go (chooses l b p) = absurd (n (omega (arith, R .rest l)))
-      go (rests e p) = absurd (n (R .past (omega arith)))
+  -- the units stay few
+  pub units-on : w ≤ maxWidth → h ≤ maxHeight → u < 2 ^ 64 → (n : ℕ) → n ≤ x .left → u + n < 2 ^ 64
+  units-on a b few n l =
+      ⊎-elim
+      (λ (c : x .rows < h). omega (arith, until S (at-on n l) c, length-le kind a b))
+      (λ (c : h ≤ x .rows). omega (arith, R .past c))
+      (lt-or-ge (x .rows) h)
 
   -- no row is left: the units are the length, and as many more as its place says
   pub rows-done : h ≤ x .rows → u ≡ boardLength kind w h + x .place

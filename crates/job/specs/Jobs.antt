@@ -9,13 +9,14 @@ use lib.Dec.{eqb, leb, ltb}
 use Rattle.board.specs.Answers.{Answer, gives, refusalSays, _then_, refuseUnless}
 use Rattle.board.specs.Boards.{among, maxWidth, maxHeight}
 use Rattle.board.specs.Checks.{givensCheck, tableSize}
+use Rattle.board.specs.Search.{allBelow}
 use Rattle.edges.specs.Edges.{edgeCheck}
 use Rattle.elimination.specs.Task.{isFill}
 use Rattle.elimination.specs.Task as Elimination
 use Rattle.elimination.specs.Plan.{Schedule}
 use Rattle.elimination.specs.FillThenChoose as Whole
 use Rattle.elimination.specs.TwoLayers as Two
-use Rattle.elimination.specs.Shape.{Shape, Numbers, numbersFit, chosenFrom, afterEntry, afterRow, afterNone}
+use Rattle.elimination.specs.Shape.{Shape, Numbers, numbersFit, chosenFrom, afterEntry, afterEntries, afterRow, afterNone}
 use Rattle.rule.specs.Rule.{ruleFits, gridCheck}
 use Rattle.rule.specs.declared.Rule.{Rule}
 use Rattle.job.specs.declared.Kind.{Kind}
@@ -247,6 +248,13 @@ afterTask (some (Elimination.row r source)) j chosen = afterChoice (shapeOf (j .
 
 unfoldable pub afterUnit : Job → Chosen → Job
 afterUnit j chosen = afterTask (taskDue j) j chosen
+
+-- The job after m entries: the job runs, and each of the next m units fills one. Where that isn't so, it stays as it is.
+unfoldable pub fillsNext : Job → ℕ → Bool
+fillsNext j m = runsWithin j && allBelow (λ i. isFill (shapeOf (j .kind) (j .width) (j .height) .plan (j .units + i))) m
+
+unfoldable pub afterFills : ℕ → Job → Job
+afterFills m j = cond (fillsNext j m) (jobWith j (afterEntries m (numbersIn (numbersOf j)))) j
 
 -- ---- the paper's number and values of each answer
 abbrev pub jobResultSays : JobResult → Answer

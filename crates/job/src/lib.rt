@@ -10,7 +10,7 @@ mod units;
 
 ghost use mathlib.Core.Path.{_≡_};
 ghost use Rattle.board.specs.Answers.{checkSays};
-ghost use Rattle.job.specs.Jobs.{kindNumber, layersOf, readCheck, numbersOf, taskDue, taskOf, afterUnit};
+ghost use Rattle.job.specs.Jobs.{kindNumber, layersOf, readCheck, numbersOf, taskDue, taskOf, afterUnit, afterFills};
 ghost use Rattle.job.specs.Calls.{Opens, Pauses, Resumes};
 
 // The kinds of job. Both come to the same board; they differ in the table that they take, and in their length.
@@ -210,11 +210,27 @@ impl Job {
         let kind = job.kind;
         let x = shape::round_of(kind, job.width, job.height, job.units);
         if x.left != 0 {
-            return units::after_entry(job, x.left != 1);
+            return units::after_entries(job, 1, x.left != 1);
         }
         if x.rows < job.height {
             return units::after_choice(job, x.rows, chosen);
         }
         job
+    }
+
+    // The job after so many entries. Where it doesn't run, or fewer are to be filled before the next row, it stays as it is.
+    pub fn after_entries(self, count: usize) -> Job
+        ensures { λ r. ⌜ r ≡ afterFills count self ⌝ }
+    {
+        let job = self;
+        if !units::is_running(job) {
+            return job;
+        }
+        let kind = job.kind;
+        let x = shape::round_of(kind, job.width, job.height, job.units);
+        if x.left < count {
+            return job;
+        }
+        units::after_entries(job, count, x.left != count)
     }
 }

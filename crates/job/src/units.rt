@@ -7,9 +7,9 @@ ghost use mathlib.Core.Path.{_≡_};
 ghost use Rattle.board.specs.Boards.{maxWidth, maxHeight};
 ghost use mathlib.Core.Bool.{cond};
 ghost use lib.Dec.{ltb};
-ghost use Prim.Native.Nat.{suc, _^_, _≤_, _<_};
+ghost use Prim.Native.Nat.{suc, _+_, _^_, _≤_, _<_};
 ghost use Rattle.elimination.specs.Task.{isFill};
-ghost use Rattle.elimination.specs.Shape.{afterEntry, afterNone};
+ghost use Rattle.elimination.specs.Shape.{afterEntries, afterNone};
 ghost use Rattle.job.specs.Jobs.{boardLength, runsWithin, shapeOf, numbersIn, numbersOf, jobWith, afterChoice};
 ghost use Rattle.job.specs.declared.Chosen.{Chosen};
 
@@ -26,11 +26,11 @@ pub fn is_running(job: Job) -> bool
     numbers::numbers_of(job).mark == 0
 }
 
-// After an entry, where the next unit fills another one or not.
-pub fn after_entry(job: Job, more: bool) -> Job
-    requires { ⌜ (job .width ≤ maxWidth) × (job .height ≤ maxHeight) × (job .units < boardLength (job .kind) (job .width) (job .height)) ⌝ }
-    requires { ⌜ more ≡ isFill (shapeOf (job .kind) (job .width) (job .height) .plan (suc (job .units))) ⌝ }
-    ensures { λ r. ⌜ r ≡ jobWith job (afterEntry (numbersIn (numbersOf job))) ⌝ }
+// After so many entries, where the next unit fills another one or not.
+pub fn after_entries(job: Job, count: usize, more: bool) -> Job
+    requires { ⌜ job .units + count < 2 ^ 64 ⌝ }
+    requires { ⌜ more ≡ isFill (shapeOf (job .kind) (job .width) (job .height) .plan (job .units + count)) ⌝ }
+    ensures { λ r. ⌜ r ≡ jobWith job (afterEntries count (numbersIn (numbersOf job))) ⌝ }
 {
     let kind = job.kind;
     let rule = job.rule;
@@ -42,7 +42,7 @@ pub fn after_entry(job: Job, more: bool) -> Job
         rule,
         width: job.width,
         height: job.height,
-        units: job.units + 1, // one entry
+        units: job.units + count,
         stage,
     }
 }

@@ -1,4 +1,4 @@
--- Laws of the tests that come before the filling of an entry and the choice of a row, and of what the two come to.
+-- Laws of the tests that come before the filling of entries and the choice of a row, and of what the two come to.
 -- Assumes nothing.
 use mathlib.Core.Path.{_≡_, refl, _∙_, sym, ap}
 use mathlib.Core.Bool.{Bool, true, false, cond, _&&_}
@@ -12,11 +12,11 @@ use Rattle.board.specs.Boards.{maxWidth, maxHeight}
 use Rattle.board.proofs.Tests.{and-left, and-right}
 use Rattle.elimination.specs.Candidates.{Choice, nothing, chosen}
 use Rattle.elimination.specs.Kind.{choose}
-use Rattle.elimination.specs.Table.{reads, fillEntry}
-use Rattle.score_table.specs.Rows.{rowWorth}
+use Rattle.elimination.specs.Table.{reads, fillEntries}
+use Rattle.score_table.specs.Rows.{rowWorth, rowKept, rowGain}
 use Rattle.score_table.specs.ScoreTable.{absent, kindFor}
-use Rattle.score_table.specs.Inner.{Memory, EntryRead}
-use Rattle.score_table.specs.Calls.{gridFits, callFits, layerFits, fillFits, fillWrites, rowPicked, pickedOf}
+use Rattle.score_table.specs.Inner.{Memory, EntriesRead}
+use Rattle.score_table.specs.Calls.{gridFits, callFits, layerFits, fillFits, fillWrites, gainOf, rowPicked, pickedOf}
 use Rattle.score_table.specs.declared.Want.{Want}
 use Rattle.score_table.specs.declared.Picked.{Picked}
 
@@ -32,7 +32,15 @@ layer-within w n at l = go (leb at (n - 4 ^ w)) refl
     go false e = e ∙ sym (lt-leb (at + 4 ^ w) n (omega (arith, leb-false at (n - 4 ^ w) e)))
 
 module _ (w h : ℕ) (g : List ℕ) where
-  grid-marks : w ≤ maxWidth → h ≤ maxHeight → eqb (length g) (w * h) ≡ gridFits w h g
+  pub grid-wide : maxWidth < w → false ≡ gridFits w h g
+  unfolding gridFits
+  grid-wide l = rw (lt-leb w maxWidth l)
+
+  pub grid-tall : w ≤ maxWidth → maxHeight < h → false ≡ gridFits w h g
+  unfolding gridFits
+  grid-tall p l = rw (le-leb w maxWidth p, lt-leb h maxHeight l)
+
+  pub grid-marks : w ≤ maxWidth → h ≤ maxHeight → eqb (length g) (w * h) ≡ gridFits w h g
   unfolding gridFits
   grid-marks p q = rw (le-leb w maxWidth p, le-leb h maxHeight q)
 
@@ -51,26 +59,38 @@ module _ (w h : ℕ) (g : List ℕ) where
         marks = eqb-true (length g) (w * h) (and-right (narrow && low) marked e);
       }
 
+-- ---- what a row earns and 1
+module _ (w h r c : ℕ) (g : List ℕ) where
+  pub gain-unfit : gridFits w h g ≡ false → 0 ≡ gainOf w h r c g
+  unfolding gainOf
+  gain-unfit e = rw e
+
+  module _ (e : gridFits w h g ≡ true) where
+    pub gain-past : h ≤ r → 0 ≡ gainOf w h r c g
+    unfolding gainOf
+    gain-past l = rw (e, le-ltb r h l)
+
+    module _ (l : r < h) where
+      pub gain-lost : rowKept w g (r * w) c ≡ false → 0 ≡ gainOf w h r c g
+      unfolding gainOf rowGain
+      gain-lost n = rw (e, lt-ltb r h l, n)
+
+      pub gain-kept : rowKept w g (r * w) c ≡ true → rowWorth w g (r * w) c + 1 ≡ gainOf w h r c g
+      unfolding gainOf rowGain
+      gain-kept k = rw (e, lt-ltb r h l, k) (omega arith)
+
+      pub gain-row : gainOf w h r c g ≡ rowGain w g (r * w) c
+      unfolding gainOf
+      gain-row = rw (e, lt-ltb r h l)
+
 module _ (want : Want) (w h : ℕ) (g : List ℕ) where
-  -- ---- the givens and the numbers, as the code tests them
-  pub call-wide : maxWidth < w → false ≡ callFits want w h g
-  unfolding gridFits
-  call-wide l = rw (lt-leb w maxWidth l)
+  -- ---- the numbers, as the code tests them
+  pub call-unfit : gridFits w h g ≡ false → false ≡ callFits want w h g
+  call-unfit e = rw e
 
-  pub call-tall : w ≤ maxWidth → maxHeight < h → false ≡ callFits want w h g
-  unfolding gridFits
-  call-tall p l = rw (le-leb w maxWidth p, lt-leb h maxHeight l)
-
-  pub call-unmarked : w ≤ maxWidth → h ≤ maxHeight → (length g ≡ w * h → ⊥) → false ≡ callFits want w h g
-  unfolding gridFits
-  call-unmarked p q n = rw (le-leb w maxWidth p, le-leb h maxHeight q, ne-eqb (length g) (w * h) n)
-
-  pub call-numbers : w ≤ maxWidth → h ≤ maxHeight → length g ≡ w * h → ltb (want .limit) (absent - w) ≡ callFits want w h g
-  call-numbers p q m = go (ltb (want .limit) (absent - w)) refl
+  pub call-numbers : gridFits w h g ≡ true → ltb (want .limit) (absent - w) ≡ callFits want w h g
+  call-numbers L = go (ltb (want .limit) (absent - w)) refl
     where
-      L : gridFits w h g ≡ true
-      L = grid-fits w h g (record { narrow = p; low = q; marks = m })
-
       go : (b : Bool) → ltb (want .limit) (absent - w) ≡ b → ltb (want .limit) (absent - w) ≡ callFits want w h g
       go true e = e ∙ sym (rw (L, lt-ltb (want .limit + w) absent (omega (arith, ltb-true (want .limit) (absent - w) e))))
       go false e = e ∙ sym (rw (L, le-ltb (want .limit + w) absent (omega (arith, ltb-false (want .limit) (absent - w) e))))
@@ -84,10 +104,10 @@ module _ (want : Want) (w h : ℕ) (g : List ℕ) where
   pub call-small : callFits want w h g ≡ true → want .limit + w < absent
   call-small e = ltb-true (want .limit + w) absent (and-right (gridFits w h g) (ltb (want .limit + w) absent) e)
 
-  -- ---- the filling of an entry
-  module _ (k source target j n : ℕ) where
+  -- ---- the filling of entries
+  module _ (k source target j m n : ℕ) where
     abbrev fitted : Bool
-    fitted = fillFits want w h k source target j g n
+    fitted = fillFits want w h k source target j m g n
 
     pub fits-unfit : callFits want w h g ≡ false → false ≡ fitted
     unfolding fillFits
@@ -99,33 +119,33 @@ module _ (want : Want) (w h : ℕ) (g : List ℕ) where
       fits-past l = rw (e, le-ltb k h l)
 
       module _ (l : k < h) where
-        pub fits-outside : 4 ^ w ≤ j → false ≡ fitted
+        pub fits-outside : 4 ^ w < j + m → false ≡ fitted
         unfolding fillFits
-        fits-outside m = rw (e, lt-ltb k h l, le-ltb j (4 ^ w) m)
+        fits-outside o = rw (e, lt-ltb k h l, lt-leb (j + m) (4 ^ w) o)
 
-        module _ (m : j < 4 ^ w) where
+        module _ (i : j + m ≤ 4 ^ w) where
           pub fits-target : layerFits w n target ≡ false → false ≡ fitted
           unfolding fillFits
-          fits-target f = rw (e, lt-ltb k h l, lt-ltb j (4 ^ w) m, f)
+          fits-target f = rw (e, lt-ltb k h l, le-leb (j + m) (4 ^ w) i, f)
 
           pub fits-last : layerFits w n target ≡ true → k ≡ 0 → true ≡ fitted
           unfolding fillFits
-          fits-last f z = rw (e, lt-ltb k h l, lt-ltb j (4 ^ w) m, f, eq-eqb k 0 z)
+          fits-last f z = rw (e, lt-ltb k h l, le-leb (j + m) (4 ^ w) i, f, eq-eqb k 0 z)
 
           pub fits-source : layerFits w n target ≡ true → (k ≡ 0 → ⊥) → layerFits w n source ≡ fitted
           unfolding fillFits
-          fits-source f z = rw (e, lt-ltb k h l, lt-ltb j (4 ^ w) m, f, ne-eqb k 0 z)
+          fits-source f z = rw (e, lt-ltb k h l, le-leb (j + m) (4 ^ w) i, f, ne-eqb k 0 z)
 
   source-when : (b x : Bool) → cond b true x ≡ true → b ≡ false → x ≡ true
   source-when b x e f = rw f at e
 
-  pub fits-read : (k source target j : ℕ) (t : List ℕ) → fillFits want w h k source target j g (length t) ≡ true
-      → EntryRead w h k source j g t × (want .limit + w < absent) × (target + 4 ^ w ≤ length t)
+  pub fits-read : (k source target j m : ℕ) (t : List ℕ) → fillFits want w h k source target j m g (length t) ≡ true
+      → EntriesRead w h k source j m g t × (want .limit + w < absent) × (target + 4 ^ w ≤ length t)
   unfolding fillFits
-  fits-read k source target j t e =
+  fits-read k source target j m t e =
       let a = callFits want w h g in
       let b = ltb k h in
-      let c = ltb j (4 ^ w) in
+      let c = leb (j + m) (4 ^ w) in
       let d = layerFits w (length t) target in
       let s = cond (eqb k 0) true (layerFits w (length t) source) in
       let p3 = and-left (a && b && c && d) s e in
@@ -134,7 +154,7 @@ module _ (want : Want) (w h : ℕ) (g : List ℕ) where
         record {
           memory = call-memory (and-left a b p1);
           after = ltb-true k h (and-right a b p1);
-          inside = ltb-true j (4 ^ w) (and-right (a && b) c p2);
+          inside = leb-true (j + m) (4 ^ w) (and-right (a && b) c p2);
           layer = λ z. leb-true (source + 4 ^ w) (length t)
               (source-when (eqb k 0) (layerFits w (length t) source) (and-right (a && b && c && d) s e) (ne-eqb k 0 z));
         },
@@ -142,24 +162,24 @@ module _ (want : Want) (w h : ℕ) (g : List ℕ) where
         leb-true (target + 4 ^ w) (length t) (and-right (a && b && c) d p3),
       )
 
-  pub read-fits : (k source target j : ℕ) (t : List ℕ) → EntryRead w h k source j g t → want .limit + w < absent → target + 4 ^ w ≤ length t
-      → fillFits want w h k source target j g (length t) ≡ true
-  read-fits k source target j t R s l = go (eqb k 0) refl
+  pub read-fits : (k source target j m : ℕ) (t : List ℕ) → EntriesRead w h k source j m g t → want .limit + w < absent → target + 4 ^ w ≤ length t
+      → fillFits want w h k source target j m g (length t) ≡ true
+  read-fits k source target j m t R s l = go (eqb k 0) refl
     where
-      go : (b : Bool) → eqb k 0 ≡ b → fillFits want w h k source target j g (length t) ≡ true
-      go true e = sym (fits-last k source target j (length t) (call-fits (R .memory) s) (R .after) (R .inside) (le-leb (target + 4 ^ w) (length t) l) (eqb-true k 0 e))
+      go : (b : Bool) → eqb k 0 ≡ b → fillFits want w h k source target j m g (length t) ≡ true
+      go true e = sym (fits-last k source target j m (length t) (call-fits (R .memory) s) (R .after) (R .inside) (le-leb (target + 4 ^ w) (length t) l) (eqb-true k 0 e))
       go false e =
           let z = eqb-false k 0 e in
-          sym (fits-source k source target j (length t) (call-fits (R .memory) s) (R .after) (R .inside) (le-leb (target + 4 ^ w) (length t) l) z)
+          sym (fits-source k source target j m (length t) (call-fits (R .memory) s) (R .after) (R .inside) (le-leb (target + 4 ^ w) (length t) l) z)
           ∙ le-leb (source + 4 ^ w) (length t) (R .layer z)
 
-  module _ (next : ℕ → ℕ) (k source target j : ℕ) (t : List ℕ) where
-    pub fill-unfit : fillFits want w h k source target j g (length t) ≡ false → t ≡ fillWrites want next w h k source target j g t
+  module _ (next : ℕ → ℕ) (k source target j m : ℕ) (t : List ℕ) where
+    pub fill-unfit : fillFits want w h k source target j m g (length t) ≡ false → t ≡ fillWrites want next w h k source target j m g t
     unfolding fillWrites
     fill-unfit e = rw e
 
-    pub fill-done : fillFits want w h k source target j g (length t) ≡ true
-        → fillEntry (kindFor want next w h g) k source target j t ≡ fillWrites want next w h k source target j g t
+    pub fill-done : fillFits want w h k source target j m g (length t) ≡ true
+        → fillEntries (kindFor want next w h g) k source target j m t ≡ fillWrites want next w h k source target j m g t
     unfolding fillWrites
     fill-done e = rw e
 

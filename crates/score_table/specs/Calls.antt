@@ -1,5 +1,5 @@
--- What the two functions answer and leave, for every input: the filling of an entry, and the choice of a row, by the numbers of a task of crate
--- `elimination`.
+-- What the functions answer and leave, for every input: the filling of entries, and the choice of a row, by the numbers of a task of crate
+-- `elimination`; and what a row earns.
 -- Assumes nothing.
 use mathlib.Core.Bool.{Bool, true, cond, _&&_}
 use mathlib.Core.List.{List}
@@ -9,8 +9,8 @@ use lib.ListN.{length}
 use Rattle.board.specs.Boards.{maxWidth, maxHeight}
 use Rattle.elimination.specs.Candidates.{Choice, nothing, chosen}
 use Rattle.elimination.specs.Kind.{choose}
-use Rattle.elimination.specs.Table.{reads, fillEntry}
-use Rattle.score_table.specs.Rows.{rowWorth}
+use Rattle.elimination.specs.Table.{reads, fillEntries}
+use Rattle.score_table.specs.Rows.{rowWorth, rowGain}
 use Rattle.score_table.specs.ScoreTable.{absent, kindFor}
 use Rattle.score_table.specs.declared.Want.{Want}
 use Rattle.score_table.specs.declared.Picked.{Picked}
@@ -28,15 +28,20 @@ abbrev pub layerFits : ℕ → ℕ → ℕ → Bool
 layerFits w n at = leb (at + 4 ^ w) n
 
 -- ---- filling
--- there is entry j of the layer at `target` with k rows after it, and both layers lie within the table; the last layer reads none
-unfoldable pub fillFits : Want → ℕ → ℕ → ℕ → ℕ → ℕ → ℕ → List ℕ → ℕ → Bool
-fillFits want w h k source target j givens n =
-    callFits want w h givens && ltb k h && ltb j (4 ^ w) && layerFits w n target && cond (eqb k 0) true (layerFits w n source)
+-- there are the m entries from entry j on of the layer at `target` with k rows after it, and both layers lie within the table; the last layer reads none
+unfoldable pub fillFits : Want → ℕ → ℕ → ℕ → ℕ → ℕ → ℕ → ℕ → List ℕ → ℕ → Bool
+fillFits want w h k source target j m givens n =
+    callFits want w h givens && ltb k h && leb (j + m) (4 ^ w) && layerFits w n target && cond (eqb k 0) true (layerFits w n source)
 
--- the table afterwards: the entry is filled; an entry that there isn't, memory or a limit that doesn't fit, leaves the table as it was
-unfoldable pub fillWrites : Want → (ℕ → ℕ) → ℕ → ℕ → ℕ → ℕ → ℕ → ℕ → List ℕ → List ℕ → List ℕ
-fillWrites want next w h k source target j givens table =
-    cond (fillFits want w h k source target j givens (length table)) (fillEntry (kindFor want next w h givens) k source target j table) table
+-- the table afterwards: they are filled; entries that there aren't, memory or a limit that doesn't fit, leave the table as it was
+unfoldable pub fillWrites : Want → (ℕ → ℕ) → ℕ → ℕ → ℕ → ℕ → ℕ → ℕ → ℕ → List ℕ → List ℕ → List ℕ
+fillWrites want next w h k source target j m givens table =
+    cond (fillFits want w h k source target j m givens (length table)) (fillEntries (kindFor want next w h givens) k source target j m table) table
+
+-- what a row earns and 1 as the one with r rows above it, 0 where it doesn't keep the givens there; no row above which there are r, or memory that
+-- doesn't fit, gives 0; of a number of more than w digits the last w are the row
+unfoldable pub gainOf : ℕ → ℕ → ℕ → ℕ → List ℕ → ℕ
+gainOf w h r c givens = cond (gridFits w h givens && ltb r h) (rowGain w givens (r * w) c) 0
 
 -- ---- choosing
 -- the choice of the row with r rows above it, the last two of them `above` and `last`, by its layer, which starts at `source`; a row that there

@@ -53,7 +53,7 @@ pub record Found (want : Want) (w : ℕ) (r : Best) (wanted : Choice ℕ) : Type
   pub row-lt : (c n : ℕ) → r ≡ Best.Row c n → c < 2 ^ w
   pub number-le : (c n : ℕ) → r ≡ Best.Row c n → n ≤ want .limit + w
 
--- ---- the filling of an entry
+-- ---- the filling of entries
 -- the entries of a layer
 abbrev pub layerSize : ℕ → ℕ
 layerSize w = 4 ^ w
@@ -64,14 +64,14 @@ pub record Memory (w h : ℕ) (givens : List ℕ) : Type 0 where
   pub low : h ≤ maxHeight
   pub marks : length givens ≡ w * h
 
--- entry j of a layer with k rows after it, and the layer at `source` that it reads; the last layer reads none
-pub record EntryRead (w h k source j : ℕ) (givens table : List ℕ) : Type 0 where
+-- the m entries from entry j on of a layer with k rows after it, and the layer at `source` that they read; the last layer reads none
+pub record EntriesRead (w h k source j m : ℕ) (givens table : List ℕ) : Type 0 where
   pub memory : Memory w h givens
   pub after : k < h
-  pub inside : j < 4 ^ w
+  pub inside : j + m ≤ 4 ^ w
   pub layer : (k ≡ 0 → ⊥) → source + 4 ^ w ≤ length table
 
--- the number that it has to be, over what the table holds
+-- the number that entry j has to be, over what the table holds
 abbrev pub entryOver : Want → (ℕ → ℕ) → ℕ → ℕ → ℕ → ℕ → ℕ → List ℕ → List ℕ → ℕ
 entryOver want next w h k source j givens table =
     entry (kindFor want next w h givens) k (j / 2 ^ w) (j % 2 ^ w) (reads (kindFor want next w h givens) table source (j % 2 ^ w))

@@ -25,3 +25,7 @@ rowWorth w givens at row = total (λ k. cellWorth (getD givens (at + k) 0) (digi
 -- a row keeps the givens that start at a place of the grid
 unfoldable pub rowKept : ℕ → List ℕ → ℕ → ℕ → Bool
 rowKept w givens at row = allBelow (λ k. markKept (getD givens (at + k) 0) (digitIn w row (k + 1))) w
+
+-- one more than what a row earns, where it keeps the givens that start at a place of the grid; 0 where it doesn't
+unfoldable pub rowGain : ℕ → List ℕ → ℕ → ℕ → ℕ
+rowGain w givens at row = cond (rowKept w givens at row) (1 + rowWorth w givens at row) 0

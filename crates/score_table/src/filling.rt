@@ -1,4 +1,5 @@
-// Filling: one entry of the score table.
+// Filling: entries of the score table, one after the other.
+use crate::NONE;
 use crate::Want;
 use crate::best;
 use crate::best::Best;
@@ -7,13 +8,10 @@ ghost use mathlib.Core.Path.{_≡_};
 ghost use Rattle.board.specs.Boards.{maxWidth};
 ghost use Prim.Native.Nat.{_+_, _<_, _≤_, _^_};
 ghost use lib.ListN.{length};
-ghost use Rattle.elimination.specs.Table.{fillEntry};
+ghost use Rattle.elimination.specs.Table.{fillEntry, fillEntries};
 ghost use Rattle.rule.specs.Rule.{entryOf};
 ghost use Rattle.score_table.specs.ScoreTable.{absent, kindFor};
-ghost use Rattle.score_table.specs.Inner.{EntryRead, entryOver, layerSize};
-
-// The number that stands for none.
-pub const NONE: u16 = 65535;
+ghost use Rattle.score_table.specs.Inner.{EntriesRead, entryOver, layerSize};
 
 // The entries of a layer, 4^w.
 pub fn layer_size(w: usize) -> usize
@@ -35,7 +33,7 @@ fn entry_at(
     givens: &[u8],
     table: &[u16],
 ) -> u16
-    requires { ⌜ EntryRead w h k source j (now givens) (now table) × (want .limit + w < absent) ⌝ }
+    requires { ⌜ EntriesRead w h k source j 1 (now givens) (now table) × (want .limit + w < absent) ⌝ }
     ensures { λ r. ⌜ r ≡ entryOver want (entryOf (now (next .entry))) w h k source j (now (givens .entry)) (now (table .entry)) ⌝ }
 {
     let n = rows::row_codes(w);
@@ -58,7 +56,7 @@ fn entry_at(
 }
 
 // Writes it into the layer that starts at `target`.
-pub fn write_entry(
+fn write_entry(
     next: &[u8; 512],
     want: Want,
     w: usize,
@@ -70,9 +68,31 @@ pub fn write_entry(
     givens: &[u8],
     table: &mut [u16],
 )
-    requires { ⌜ EntryRead w h k source j (now givens) (now table) × (want .limit + w < absent) × (target + 4 ^ w ≤ length (now table)) ⌝ }
+    requires { ⌜ EntriesRead w h k source j 1 (now givens) (now table) × (want .limit + w < absent) × (target + 4 ^ w ≤ length (now table)) ⌝ }
     ensures { λ _. ⌜ now (table .exit) ≡ fillEntry (kindFor want (entryOf (now (next .entry))) w h (now (givens .entry))) k source target j (now (table .entry)) ⌝ }
 {
     let e = entry_at(next, want, w, h, k, source, j, givens, table);
     table[target + j] = e;
+}
+
+// Writes so many entries of that layer, from entry `from` on.
+pub fn write_entries(
+    next: &[u8; 512],
+    want: Want,
+    w: usize,
+    h: usize,
+    k: usize,
+    source: usize,
+    target: usize,
+    from: usize,
+    count: usize,
+    givens: &[u8],
+    table: &mut [u16],
+)
+    requires { ⌜ EntriesRead w h k source from count (now givens) (now table) × (want .limit + w < absent) × (target + 4 ^ w ≤ length (now table)) ⌝ }
+    ensures { λ _. ⌜ now (table .exit) ≡ fillEntries (kindFor want (entryOf (now (next .entry))) w h (now (givens .entry))) k source target from count (now (table .entry)) ⌝ }
+{
+    for i in 0..count {
+        write_entry(next, want, w, h, k, source, target, from + i, givens, table);
+    }
 }

@@ -1,4 +1,4 @@
-// The score table of row elimination over a grid's rows: the filling of an entry, and the choice of a row by what the table holds, by the numbers
+// The score table of row elimination over a grid's rows: the filling of entries, and the choice of a row by what the table holds, by the numbers
 // of a task. Both take every input; the table of the 512 patterns says how cells change, and a want says which row is the best.
 mod best;
 mod filling;
@@ -10,7 +10,10 @@ ghost use Rattle.board.specs.Boards.{maxWidth};
 ghost use Prim.Native.Nat.{_≤_};
 ghost use Rattle.rule.specs.Rule.{entryOf};
 ghost use Rattle.score_table.specs.ScoreTable.{mostLive};
-ghost use Rattle.score_table.specs.Calls.{callFits, layerFits, fillFits, fillWrites, rowPicked, pickedOf};
+ghost use Rattle.score_table.specs.Calls.{gridFits, callFits, layerFits, fillFits, fillWrites, gainOf, rowPicked, pickedOf};
+
+// The number that stands for none.
+pub const NONE: u16 = 65535;
 
 // Which of the rows that may stand somewhere is the best, by the sums of their worths and the numbers that the table has for them.
 pub struct Want {
@@ -39,8 +42,8 @@ pub fn most_live() -> Want
     }
 }
 
-// Fills entry j of the layer that starts at `target` and has `after` rows after it, by the layer that starts at `source`. Where there is no such
-// entry, the memory isn't of a grid of w by h cells, or a number could be taken for none, nothing is written.
+// Fills entries of the layer that starts at `target` and has `after` rows after it, by the layer that starts at `source`: `count` of them from entry
+// `from` on. Where there are no such entries, the memory isn't of a grid of w by h cells, or a number could be taken for none, nothing is written.
 pub fn fill(
     next: &[u8; 512],
     want: Want,
@@ -49,17 +52,30 @@ pub fn fill(
     after: usize,
     source: usize,
     target: usize,
-    j: usize,
+    from: usize,
+    count: usize,
     givens: &[u8],
     table: &mut [u16],
 )
-    ensures { λ _. ⌜ now (table .exit) ≡ fillWrites want (entryOf (now (next .entry))) w h after source target j (now (givens .entry)) (now (table .entry)) ⌝ }
+    ensures { λ _. ⌜ now (table .exit) ≡ fillWrites want (entryOf (now (next .entry))) w h after source target from count (now (givens .entry)) (now (table .entry)) ⌝ }
 {
     let n = table.len();
-    if !fill_fits(want, w, h, after, source, target, j, givens, n) {
+    if !fill_fits(want, w, h, after, source, target, from, count, givens, n) {
         return;
     }
-    filling::write_entry(next, want, w, h, after, source, target, j, givens, table);
+    filling::write_entries(
+        next,
+        want,
+        w,
+        h,
+        after,
+        source,
+        target,
+        from,
+        count,
+        givens,
+        table,
+    );
 }
 
 // Chooses the row below `above` and `last` that has r rows above it, by its layer, which starts at `source`. Where there is no such row, the
@@ -105,9 +121,27 @@ pub fn choose_row(
     }
 }
 
-// Whether the givens are those of a grid of at most 10 by 60 cells, and no number of an entry could be taken for none.
-fn fits(want: Want, w: usize, h: usize, givens: &[u8]) -> bool
-    ensures { λ r. ⌜ r ≡ callFits want w h (now (givens .entry)) ⌝ }
+// One more than what a row earns as the one with r rows above it, by the last w digits of its number; 0 where it doesn't keep the givens there, or the
+// memory isn't of a grid of w by h cells with so many rows above one.
+pub fn row_gain(w: usize, h: usize, r: usize, row: usize, givens: &[u8]) -> usize
+    ensures { λ x. ⌜ x ≡ gainOf w h r row (now (givens .entry)) ⌝ }
+{
+    if !grid_fits(w, h, givens) {
+        return 0;
+    }
+    if h <= r {
+        return 0;
+    }
+    let at = r * w;
+    if !rows::row_kept(w, givens, at, row) {
+        return 0;
+    }
+    rows::row_worth(w, givens, at, row) + 1
+}
+
+// Whether the givens are those of a grid of at most 10 by 60 cells.
+fn grid_fits(w: usize, h: usize, givens: &[u8]) -> bool
+    ensures { λ r. ⌜ r ≡ gridFits w h (now (givens .entry)) ⌝ }
 {
     if board::MAX_WIDTH < w {
         return false;
@@ -115,10 +149,17 @@ fn fits(want: Want, w: usize, h: usize, givens: &[u8]) -> bool
     if board::MAX_HEIGHT < h {
         return false;
     }
-    if givens.len() != w * h {
+    givens.len() == w * h
+}
+
+// Whether they are, and no number of an entry could be taken for none.
+fn fits(want: Want, w: usize, h: usize, givens: &[u8]) -> bool
+    ensures { λ r. ⌜ r ≡ callFits want w h (now (givens .entry)) ⌝ }
+{
+    if !grid_fits(w, h, givens) {
         return false;
     }
-    want.limit < filling::NONE as usize - w
+    want.limit < NONE as usize - w
 }
 
 // Whether the layer that starts at a place lies within a table of n entries.
@@ -133,19 +174,20 @@ fn layer_fits(w: usize, n: usize, at: usize) -> bool
     at <= n - q
 }
 
-// Whether there is such an entry to fill in a table of n entries.
-fn fill_fits(
+// Whether there are such entries to fill in a table of n entries.
+pub fn fill_fits(
     want: Want,
     w: usize,
     h: usize,
     after: usize,
     source: usize,
     target: usize,
-    j: usize,
+    from: usize,
+    count: usize,
     givens: &[u8],
     n: usize,
 ) -> bool
-    ensures { λ r. ⌜ r ≡ fillFits want w h after source target j (now (givens .entry)) n ⌝ }
+    ensures { λ r. ⌜ r ≡ fillFits want w h after source target from count (now (givens .entry)) n ⌝ }
 {
     if !fits(want, w, h, givens) {
         return false;
@@ -153,7 +195,11 @@ fn fill_fits(
     if h <= after {
         return false;
     }
-    if filling::layer_size(w) <= j {
+    let q = filling::layer_size(w);
+    if q < count {
+        return false;
+    }
+    if q - count < from {
         return false;
     }
     if !layer_fits(w, n, target) {

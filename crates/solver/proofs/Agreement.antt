@@ -1,4 +1,4 @@
--- Three rows agree by a table that holds a rule's next states exactly as by the rule, so an entry and a choice by the table are those by the rule.
+-- Three rows agree by a table that holds a rule's next states exactly as by the rule, so entries and a choice by the table are those by the rule.
 -- Assumes nothing.
 use mathlib.Core.Path.{_≡_, _∙_, sym, ap, fun-ext}
 use mathlib.Core.Bool.{Bool}
@@ -12,13 +12,13 @@ use lib.ListN.{length}
 use Rattle.board.specs.Boards.{maxWidth}
 use Rattle.board.specs.Search.{allBelow}
 use Rattle.elimination.specs.Kind.{Kind, choose}
-use Rattle.elimination.specs.Table.{reads, fillEntry}
+use Rattle.elimination.specs.Table.{reads, fillEntries}
 use Rattle.elimination.specs.Sums.{sumKind}
 use Rattle.rule.specs.Rule.{Holds, entryOf}
 use Rattle.life.specs.Plane.{nine}
 use Rattle.life.specs.Rows.{cellOf, becomes, stepsTo, agree}
 use Rattle.score_table.specs.ScoreTable.{absent, mostLive, rules, kindOf}
-use Rattle.score_table.specs.Inner.{Memory, EntryRead}
+use Rattle.score_table.specs.Inner.{Memory, EntriesRead}
 use Rattle.score_table.specs.Calls.{fillWrites, rowPicked}
 use Rattle.score_table.proofs.Columns.{cell-small}
 use Rattle.score_table.proofs.Calls.{call-fits, read-fits, fill-done, picked-choice}
@@ -53,12 +53,12 @@ module _ (next : ℕ → ℕ) (table : List ℕ) (H : Holds next table) where
   kind-same w h g = ap (λ (f : ℕ → ℕ → ℕ → Bool). sumKind (rules mostLive f w (λ k. (h - suc k) * w) g)) (fun-ext λ a. fun-ext λ b. fun-ext λ c. agree-same w a b c)
 
   module _ (w h : ℕ) (g t : List ℕ) where
-    -- the filling of an entry
-    pub filled : (k source target j : ℕ) → EntryRead w h k source j g t → target + 4 ^ w ≤ length t
-        → fillWrites mostLive (entryOf table) w h k source target j g t ≡ fillEntry (kindOf next w h g) k source target j t
-    filled k source target j R l =
-        sym (fill-done mostLive w h g (entryOf table) k source target j t (read-fits mostLive w h g k source target j t R (small (R .memory .narrow)) l))
-        ∙ ap (λ (K : Kind ℕ). fillEntry K k source target j t) (kind-same w h g)
+    -- the filling of entries
+    pub filled : (k source target j m : ℕ) → EntriesRead w h k source j m g t → target + 4 ^ w ≤ length t
+        → fillWrites mostLive (entryOf table) w h k source target j m g t ≡ fillEntries (kindOf next w h g) k source target j m t
+    filled k source target j m R l =
+        sym (fill-done mostLive w h g (entryOf table) k source target j m t (read-fits mostLive w h g k source target j m t R (small (R .memory .narrow)) l))
+        ∙ ap (λ (K : Kind ℕ). fillEntries K k source target j m t) (kind-same w h g)
 
     -- the choice of a row
     pub picked : Memory w h g → (r source a b : ℕ) → r < h → source + 4 ^ w ≤ length t → a < 2 ^ w → b < 2 ^ w

@@ -1,26 +1,28 @@
--- One unit as the code does it, way by way, and a call's units one by one.
+-- One unit as the code does it, way by way, and a call's units: entries of a layer all at once, rows one by one.
 -- Assumes nothing.
-use mathlib.Core.Path.{_≡_, refl, sym, _∙_, ap, subst}
+use mathlib.Core.Path.{_≡_, refl, sym, _∙_, ap, ap₂, subst}
 use mathlib.Core.Bool.{true}
 use mathlib.Core.List.{List, []}
 use mathlib.Core.Option.{none}
-use Prim.Native.Nat.{ℕ, zero, suc, _+_, _*_, _-_, _^_, _<_}
+use Prim.Native.Nat.{ℕ, zero, suc, _+_, _*_, _-_, _^_, _≤_, _<_}
 use native.Mathlib.Omega.{arith}
 use Rattle.board.specs.Answers.{Answer, refuses}
+use Rattle.board.proofs.Powers.{four-pos}
 use Rattle.elimination.specs.Candidates.{Choice, nothing, chosen}
 use Rattle.elimination.specs.Kind.{Kind, choose}
-use Rattle.elimination.specs.Table.{reads, fillEntry}
-use Rattle.elimination.specs.Task.{Task, fill, row}
-use Rattle.elimination.specs.Shape.{afterEntry, afterRow, afterNone}
+use Rattle.elimination.specs.Table.{reads, fillEntry, fillEntries}
+use Rattle.elimination.specs.Task.{Task, fill, row, isFill}
+use Rattle.elimination.specs.Shape.{Numbers, afterEntry, afterEntries, afterRow, afterNone}
 use Rattle.elimination.specs.Job.{Setup}
 use Rattle.rule.specs.Rule.{nextUnder}
 use Rattle.score_table.specs.Rows.{rowWorth}
 use Rattle.score_table.specs.ScoreTable.{kindOf}
 use Rattle.score_table.proofs.Marks.{row-worth-le}
-use Rattle.job.specs.Jobs.{shapeOf, aboveOf, lastOf, markOf, liveOf, jobFits, taskDue, jobWith, afterUnit}
+use Rattle.job.specs.Jobs.{shapeOf, aboveOf, lastOf, markOf, liveOf, jobFits, taskDue, jobWith, afterUnit, afterFills}
 use Rattle.job.specs.declared.Job.{Job}
 use Rattle.job.specs.declared.Chosen.{Chosen}
-use Rattle.job.proofs.Next.{due-none, after-entry, after-row, after-none}
+use Rattle.job.proofs.Shapes.{shape-rounds}
+use Rattle.job.proofs.Next.{fits-until, due-none, entries-none, entries-here, entries-more, after-run, after-row, after-none}
 use Rattle.service.specs.Service.{next, spoiled, worksOn, stageSays}
 use Rattle.service.specs.Units.{here, rowStep, markStep, unitBy}
 use Rattle.service.proofs.Calls.{works-none, works-next, works-still, works-spoiled}
@@ -30,22 +32,15 @@ use Rattle.solver.specs.Inner.{lentState, stepOf, Lent, Chooses, Moves}
 use Rattle.solver.specs.declared.choosing.Stepped.{Stepped}
 use Rattle.elimination.proofs.Candidates.{RowBelow}
 use Rattle.elimination.proofs.Kind.{choose-below}
+use Rattle.elimination.proofs.Table.{fill-none, fill-more}
+use Rattle.elimination.proofs.Rounds.{fill-run}
 use Rattle.solver.proofs.UnitLaws.{unit-fits, unit-lent, row-in}
-
-next-not-ended : {j : Job} {A : Type 0} → Stepped.Next j ≡ Stepped.Ended → A
-next-not-ended e = absurd (let z : _≡_ {A = ℕ} 0 1 = cc in omega arith)
 
 next-not-spoiled : {j : Job} {A : Type 0} → Stepped.Next j ≡ Stepped.Spoiled → A
 next-not-spoiled e = absurd (let z : _≡_ {A = ℕ} 0 1 = cc in omega arith)
 
-ended-not-spoiled : {A : Type 0} → Stepped.Ended ≡ Stepped.Spoiled → A
-ended-not-spoiled e = absurd (let z : _≡_ {A = ℕ} 0 1 = cc in omega arith)
-
-spoiled-not-ended : {A : Type 0} → Stepped.Spoiled ≡ Stepped.Ended → A
-spoiled-not-ended e = absurd (let z : _≡_ {A = ℕ} 0 1 = cc in omega arith)
-
 moved-on : {j j′ : Job} {g t β t′ β′ : List ℕ} → next (lentState j′ t′ β′) ≡ unitOf g (lentState j t β) → Moves j g t β (Stepped.Next j′) t′ β′
-moved-on e = record { step = e; ended = next-not-ended; spoiled = next-not-spoiled }
+moved-on e = record { step = e; spoiled = next-not-spoiled }
 
 -- ---- a unit, by its task
 module _ (j : Job) (g t β : List ℕ) where
@@ -75,18 +70,17 @@ module _ (j : Job) (g t β : List ℕ) where
   unfolding unitOf unitBy
   unit-choose r source m p = ap (λ (o : Task). markStep grids (markOf (j .stage)) o now) p ∙ ap (λ (n : ℕ). markStep grids n (row r source) now) m
 
-  pub moves-fill : {k source target i : ℕ} → jobFits j ≡ true → markOf (j .stage) ≡ 0 → shapeOf (j .kind) w h .plan (j .units) ≡ fill k source target i
-      → (j′ : Job) → j′ ≡ afterUnit j Chosen.Nothing → (t′ : List ℕ) → t′ ≡ fillEntry kinds k source target i t → Moves j g t β (Stepped.Next j′) t′ β
-  moves-fill {k} {source} {target} {i} f m p j′ q t′ e = moved-on (rw (q, after-entry j f m p Chosen.Nothing, e) (sym (unit-fill k source target i m p)))
-
-  -- an ended job stays
-  pub moves-ended : jobFits j ≡ true → taskDue j ≡ none → Moves j g t β Stepped.Ended t β
+  -- an ended job stays, whatever is left of the allowance
+  unit-ended : jobFits j ≡ true → taskDue j ≡ none → unitOf g now ≡ next now
   unfolding unitOf unitBy
-  moves-ended f e = record { step = sym (go (markOf (j .stage)) refl); ended = λ x. (refl, refl); spoiled = ended-not-spoiled }
+  unit-ended f e = go (markOf (j .stage)) refl
     where
       go : (m : ℕ) → markOf (j .stage) ≡ m → unitOf g now ≡ next now
       go zero z = absurd (due-none j f e z)
       go (suc m) z = rw z
+
+  pub works-over : jobFits j ≡ true → taskDue j ≡ none → (x : Answer) → x ≡ stageSays (j .stage) → (n : ℕ) → record { answer = x; state = now } ≡ worksOn grid g n now
+  works-over f e x q n = rw q (sym (works-still grid g n now (unit-ended f e)))
 
 -- a row, with r rows above it
 module _ (j : Job) (r source : ℕ) (g t β : List ℕ) (C : Chooses j r source g t β) where
@@ -123,47 +117,77 @@ module _ (j : Job) (r source : ℕ) (g t β : List ℕ) (C : Chooses j r source 
       go (suc k) p = absurd (omega arith)
 
   pub moves-spoiled : (r ≡ 0 → ⊥) → choice ≡ nothing → Moves j g t β Stepped.Spoiled t β
-  moves-spoiled n f = record { step = go r n ∙ comes nothing f; ended = spoiled-not-ended; spoiled = λ x. (refl, refl) }
+  moves-spoiled n f = record { step = go r n ∙ comes nothing f; spoiled = λ x. (refl, refl) }
     where
       go : (k : ℕ) → (k ≡ 0 → ⊥) → spoiled ≡ rowStep (setupOf (j .kind) (j .rule) (j .width) (j .height) g) k (lentState j t β) nothing
       go zero p = absurd (p refl)
       go (suc k) p = refl
 
--- ---- a call's units, one by one
-module _ (g : List ℕ) where
-  -- a unit that is done, and one that can't be
-  module _ (j : Job) (t β : List ℕ) (r : Stepped) (t′ β′ : List ℕ) (M : Moves j g t β r t′ β′) where
-    moved : (j′ : Job) → r ≡ Stepped.Next j′ → unitOf g (lentState j t β) ≡ next (lentState j′ t′ β′)
-    moved j′ e = sym (subst (λ (o : Stepped). stepOf j o t′ β′ ≡ unitOf g (lentState j t β)) e (M .step))
+-- ---- a call's units
+-- where a call goes on from a later state: what is left comes to the same, and the checks would still pass
+pub record Onward (g : List ℕ) (j : Job) (t β : List ℕ) (n : ℕ) (j′ : Job) (t′ β′ : List ℕ) (n′ : ℕ) : Type 0 where
+  pub works : worksOn grid g n′ (lentState j′ t′ β′) ≡ worksOn grid g n (lentState j t β)
+  pub lent : Lent j′ g t′ β′
+  pub rule : j′ .rule ≡ j .rule
 
-    pub works-moved : (j′ : Job) → r ≡ Stepped.Next j′ → (n : ℕ) → (n ≡ 0 → ⊥) → worksOn grid g (n - 1) (lentState j′ t′ β′) ≡ worksOn grid g n (lentState j t β)
-    works-moved j′ e zero l = absurd (l refl)
-    works-moved j′ e (suc n) l =
-        let k : suc n - 1 ≡ n = omega arith in
-        rw k (sym (works-next grid g n (lentState j t β) (lentState j′ t′ β′) (moved j′ e)))
+-- after entries of a layer, one a unit
+module _ (j : Job) (g t β : List ℕ) (L : Lent j g t β) (m : markOf (j .stage) ≡ 0) (k source target i : ℕ)
+    (p : shapeOf (j .kind) (j .width) (j .height) .plan (j .units) ≡ fill k source target i) where
+  abbrev K : Kind ℕ
+  K = kindOf (nextUnder (j .rule)) (j .width) (j .height) g
+
+  -- the state after c of them
+  abbrev ran : ℕ → State
+  ran c = lentState (jobWith j (afterEntries c (here j))) (fillEntries K k source target i c t) β
+
+  ran-none : ran 0 ≡ lentState j t β
+  ran-none = ap₂ (λ (x : Job) (y : List ℕ). lentState x y β) (entries-none j (L .taken) m) (fill-none K k source target i t)
+
+  fills : (c : ℕ) → i + c < 4 ^ j .width → shapeOf (j .kind) (j .width) (j .height) .plan (j .units + c) ≡ fill k source target (i + c)
+  fills c l = fill-run (shape-rounds (j .width) (j .height) (j .kind)) (four-pos (j .width)) (fits-until j (L .taken) m) p c l .0
+
+  ran-more : (c : ℕ) → i + c < 4 ^ j .width → unitOf g (ran c) ≡ next (ran (suc c))
+  ran-more c l =
+      unit-fill (ran c .job) g (ran c .table) β k source target (i + c) (ap (λ (x : Numbers). x .mark) (entries-here j c)) (fills c l)
+      ∙ ap₂ (λ (x : Job) (y : List ℕ). next (lentState x y β)) (entries-more j c) (sym (fill-more K k source target i t c))
+
+  lent-ran : (c : ℕ) → i + c ≤ 4 ^ j .width → Lent (ran c .job) g (ran c .table) β
+  lent-ran zero l = subst (λ (s : State). Lent (s .job) g (s .table) (s .board)) (sym ran-none) L
+  lent-ran (suc c) l = unit-lent g (ran c) (ran (suc c)) (lent-ran c (omega arith)) (ran-more c (omega arith))
+
+  works-ran : (c : ℕ) → i + c ≤ 4 ^ j .width → (n : ℕ) → c ≤ n → worksOn grid g (n - c) (ran c) ≡ worksOn grid g n (lentState j t β)
+  works-ran zero l n b = ap₂ (λ (x : ℕ) (s : State). worksOn grid g x s) (let e : n - 0 ≡ n = omega arith in e) ran-none
+  works-ran (suc c) l n b =
+      let e : suc (n - suc c) ≡ n - c = omega arith in
+      sym (works-next grid g (n - suc c) (ran c) (ran (suc c)) (ran-more c (omega arith)))
+      ∙ ap (λ (x : ℕ). worksOn grid g x (ran c)) e
+      ∙ works-ran c (omega arith) n (omega arith)
+
+  pub onward-filled : (c : ℕ) → i + c ≤ 4 ^ j .width → (j′ : Job) → j′ ≡ afterFills c j → (t′ : List ℕ) → t′ ≡ fillEntries K k source target i c t → (n : ℕ) → c ≤ n
+      → Onward g j t β n j′ t′ β (n - c)
+  onward-filled c l j′ q t′ e n b =
+      let d : j′ ≡ jobWith j (afterEntries c (here j)) = q ∙ after-run j (L .taken) m c (λ x y. ap isFill (fills x (omega arith))) in
+      rw (d, e) record { works = works-ran c l n b; lent = lent-ran c l; rule = refl }
+
+module _ (g : List ℕ) where
+  -- after a row, and where none can be chosen
+  module _ (j : Job) (t β : List ℕ) (r : Stepped) (t′ β′ : List ℕ) (M : Moves j g t β r t′ β′) where
+    pub onward-moved : (j′ : Job) → r ≡ Stepped.Next j′ → Lent j g t β → (n : ℕ) → (n ≡ 0 → ⊥) → Onward g j t β n j′ t′ β′ (n - 1)
+    onward-moved j′ e L n l =
+        let k : n ≡ suc (n - 1) = omega (arith, l) in
+        let s = lentState j t β in
+        let s′ = lentState j′ t′ β′ in
+        let u : unitOf g s ≡ next s′ = sym (subst (λ (o : Stepped). stepOf j o t′ β′ ≡ unitOf g s) e (M .step)) in record {
+          works = sym (ap (λ (x : ℕ). worksOn grid g x s) k ∙ works-next grid g (n - 1) s s′ u);
+          lent = unit-lent g s s′ L u;
+          rule = unit-fits g s s′ (L .taken) u .rule;
+        }
 
     pub works-turned : r ≡ Stepped.Spoiled → (n : ℕ) → (n ≡ 0 → ⊥) → record { answer = refuses 9 []; state = lentState j t′ β′ } ≡ worksOn grid g n (lentState j t β)
     works-turned e zero l = absurd (l refl)
     works-turned e (suc n) l =
         let x = M .spoiled e in
         rw (x .0, x .1) (sym (works-spoiled grid g n (lentState j t β) (sym (subst (λ (o : Stepped). stepOf j o t′ β′ ≡ unitOf g (lentState j t β)) e (M .step)))))
-
-    -- the call's answer where the job has ended
-    pub works-over : r ≡ Stepped.Ended → (x : Answer) → x ≡ stageSays (j .stage) → (n : ℕ)
-        → record { answer = x; state = lentState j t′ β′ } ≡ worksOn grid g n (lentState j t β)
-    works-over e x f n =
-        let y = M .ended e in
-        let q : unitOf g (lentState j t β) ≡ next (lentState j t β) =
-        sym (subst (λ (o : Stepped). stepOf j o t′ β′ ≡ unitOf g (lentState j t β)) e (M .step)) ∙ rw (y .0, y .1) in
-        rw (y .0, y .1, f) (sym (works-still grid g n (lentState j t β) q))
-
-    -- after a unit the checks would still pass
-    pub lent-moved : (j′ : Job) → r ≡ Stepped.Next j′ → Lent j g t β → Lent j′ g t′ β′
-    lent-moved j′ e L = unit-lent g (lentState j t β) (lentState j′ t′ β′) L (moved j′ e)
-
-    -- and the job keeps its rule
-    pub rule-moved : (j′ : Job) → r ≡ Stepped.Next j′ → Lent j g t β → j′ .rule ≡ j .rule
-    rule-moved j′ e L = unit-fits g (lentState j t β) (lentState j′ t′ β′) (L .taken) (moved j′ e) .rule
 
   -- the end of a call
   pub works-spent : (j : Job) (t β : List ℕ) (x : Answer) → x ≡ stageSays (j .stage) → (n : ℕ) → n ≡ 0 → record { answer = x; state = lentState j t β } ≡ worksOn grid g n (lentState j t β)

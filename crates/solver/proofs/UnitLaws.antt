@@ -7,6 +7,7 @@ use mathlib.Core.List.{List}
 use Prim.Native.Nat.{ℕ, zero, suc, _+_, _-_, _^_, _≤_, _<_}
 use native.Mathlib.Omega.{arith}
 use lib.ListN.{length, length-set}
+use Rattle.board.specs.Boards.{maxWidth}
 use Rattle.elimination.specs.Candidates.{Choice, nothing, chosen}
 use Rattle.rule.specs.declared.Rule.{Rule}
 use Rattle.job.specs.Jobs.{planOf, shapeOf, aboveOf, lastOf, markOf, jobFits}
@@ -15,13 +16,13 @@ use Rattle.elimination.specs.Kind.{choose}
 use Rattle.elimination.specs.Table.{reads, fillEntry}
 use Rattle.score_table.specs.ScoreTable.{kindOf}
 use Rattle.elimination.specs.Task.{Task, fill, row}
-use Rattle.elimination.proofs.Rounds.{fill-at, row-at}
+use Rattle.elimination.proofs.Rounds.{FillAt, fill-at, row-at}
 use Rattle.board.proofs.Powers.{four-pos}
 use Rattle.service.specs.Units.{rowStep, taskStep, markStep, unitBy}
 use Rattle.service.specs.Service.{next, spoiled}
 use Rattle.solver.specs.Units.{State, Step, setupOf, unitOf}
 use Rattle.solver.specs.Inner.{Lent, Chooses}
-use Rattle.score_table.specs.Inner.{Memory, EntryRead}
+use Rattle.score_table.specs.Inner.{Memory, EntriesRead}
 use Rattle.job.specs.declared.Kind.{Kind}
 use Rattle.job.specs.declared.Job.{Job}
 use Rattle.job.proofs.Shapes.{shape-rounds}
@@ -93,15 +94,20 @@ pub lent-memory : {j : Job} {g t β : List ℕ} → Lent j g t β → Memory (j 
 lent-memory {j} L =
     let z = fits-frame j (L .taken) .size in record { narrow = z .narrow; low = z .low; marks = L .marks }
 
--- where an entry is to be filled
-pub lent-read : {j : Job} {g t β : List ℕ} {k source target i : ℕ} → Lent j g t β → markOf (j .stage) ≡ 0
-    → shapeOf (j .kind) (j .width) (j .height) .plan (j .units) ≡ fill k source target i
-    → EntryRead (j .width) (j .height) k source i g t × (target + 4 ^ j .width ≤ length t)
-lent-read {j} {g} {t} {β} {k} {source} {target} {i} L m p =
-    let F = fill-at (shape-rounds (j .width) (j .height) (j .kind)) (four-pos (j .width)) (fits-until j (L .taken) m) p in (
-      record { memory = lent-memory L; after = F .after; inside = F .inside; layer = λ z. omega (arith, F .reads z, L .entries) },
-      omega (arith, F .writes, L .entries),
-    )
+-- where an entry is to be filled: it is one of its layer's, and the layers lie within the table
+module _ {j : Job} {g t β : List ℕ} {k source target i : ℕ} (L : Lent j g t β) (m : markOf (j .stage) ≡ 0)
+    (p : shapeOf (j .kind) (j .width) (j .height) .plan (j .units) ≡ fill k source target i) where
+  at : FillAt (shape-rounds (j .width) (j .height) (j .kind)) k source target i
+  at = fill-at (shape-rounds (j .width) (j .height) (j .kind)) (four-pos (j .width)) (fits-until j (L .taken) m) p
+
+  pub lent-entry : (j .width ≤ maxWidth) × (i < 4 ^ j .width)
+  lent-entry = (fits-frame j (L .taken) .size .narrow, at .inside)
+
+  pub lent-read : (n : ℕ) → i + n ≤ 4 ^ j .width → EntriesRead (j .width) (j .height) k source i n g t × (target + 4 ^ j .width ≤ length t)
+  lent-read n l = (
+    record { memory = lent-memory L; after = at .after; inside = l; layer = λ z. omega (arith, at .reads z, L .entries) },
+    omega (arith, at .writes, L .entries),
+  )
 
 -- where a row is to be chosen: it is one of the board's, and its layer lies within the table
 pub record RowIn (j : Job) (r source : ℕ) (t : List ℕ) : Type 0 where

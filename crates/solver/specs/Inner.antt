@@ -31,11 +31,9 @@ pub record Chooses (j : Job) (r source : ℕ) (givens table board : List ℕ) : 
 
 abbrev pub stepOf : Job → Stepped → List ℕ → List ℕ → Step
 stepOf j (Stepped.Next j′) table board = next (lentState j′ table board)
-stepOf j Stepped.Ended table board = next (lentState j table board)
 stepOf j Stepped.Spoiled table board = spoiled
 
 -- only a unit that is done writes
 pub record Moves (j : Job) (givens table board : List ℕ) (r : Stepped) (table′ board′ : List ℕ) : Type 0 where
   pub step : stepOf j r table′ board′ ≡ unitOf givens (lentState j table board)
-  pub ended : r ≡ Stepped.Ended → (table′ ≡ table) × (board′ ≡ board)
   pub spoiled : r ≡ Stepped.Spoiled → (table′ ≡ table) × (board′ ≡ board)

@@ -5,10 +5,9 @@ use score_table::Picked;
 ghost use Rattle.rule.specs.Rule.{Holds, nextUnder};
 ghost use Rattle.solver.specs.Inner.{Chooses, Moves};
 
-// What a unit comes to: the next job; the job has ended; or no row can be chosen after row 1.
+// What a unit that chooses comes to: the next job; or no row can be chosen after row 1.
 pub enum Stepped {
     Next(Job),
-    Ended,
     Spoiled,
 }
 

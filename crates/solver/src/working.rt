@@ -5,19 +5,19 @@ use crate::choosing;
 use crate::choosing::Stepped;
 use board::Check;
 use board::Refusal;
-use job::Chosen;
 use job::Job;
 use job::Paused;
 use job::Stage;
 use job::Task;
 ghost use mathlib.Core.Path.{_≡_};
+ghost use Prim.Native.Nat.{_-_, _^_, _≤_, _<_, min};
 ghost use Rattle.board.specs.Answers.{checkSays};
-ghost use Rattle.rule.specs.Rule.{Holds, nextUnder};
+ghost use Rattle.board.specs.Boards.{maxWidth};
 ghost use Rattle.service.specs.Service.{workCheck, worksOn, stageSays};
 ghost use Rattle.solver.specs.Working.{statusSays};
 ghost use Rattle.solver.specs.Units.{grid};
 ghost use Rattle.solver.specs.Calls.{resultOf};
-ghost use Rattle.solver.specs.Inner.{Lent, Moves, lentState};
+ghost use Rattle.solver.specs.Inner.{Lent, lentState};
 
 // The checks of a working call: 7 as pausing, then 3, 4, 14, 5, 6.
 pub fn check_work(job: Job, givens: &[u8], table: &[u16], board: &[u8]) -> Check
@@ -62,42 +62,16 @@ fn status_of(stage: Stage) -> Status
     }
 }
 
-// One unit of a job that passed its checks.
-fn unit(next: &[u8; 512], job: Job, givens: &[u8], table: &mut [u16], board: &mut [u8]) -> Stepped
-    requires { ⌜ Holds (nextUnder (job .rule)) (now next) ⌝ }
-    requires { ⌜ Lent job (now givens) (now table) (now board) ⌝ }
-    ensures { λ r. ⌜ Moves job (now (givens .entry)) (now (table .entry)) (now (board .entry)) r (now (table .exit)) (now (board .exit)) ⌝ }
+// The entries to fill at once, from one of a layer on: what the layer has left or the allowance, whichever is less.
+fn entries_now(w: usize, entry: usize, left: usize) -> usize
+    requires { ⌜ (w ≤ maxWidth) × (entry < 4 ^ w) ⌝ }
+    ensures { λ r. ⌜ r ≡ min (4 ^ w - entry) left ⌝ }
 {
-    match job.task() {
-        Task::Fill {
-            after,
-            source,
-            target,
-            entry,
-        } => {
-            let want = score_table::most_live();
-            score_table::fill(
-                next,
-                want,
-                job.width,
-                job.height,
-                after,
-                source,
-                target,
-                entry,
-                givens,
-                table,
-            );
-            Stepped::Next(job.after(Chosen::Nothing))
-        }
-        Task::Choose { row, source } => {
-            choosing::choose(next, job, row, source, givens, table, board)
-        }
-        Task::Nothing => Stepped::Ended,
-    }
+    let rest = board::table_size(w, 1) - entry;
+    if rest < left { rest } else { left }
 }
 
-// The units of a working call that passed its checks.
+// The units of a working call that passed its checks: entries of a layer all at once, rows one by one.
 pub fn work_on(
     start: Job,
     givens: &[u8],
@@ -111,26 +85,54 @@ pub fn work_on(
     let rule = start.rule;
     let next = rule::table::of(rule);
     let mut job = start;
-    let mut left = allowance;
+    let mut left = allowance as usize;
     loop {
         if left == 0 {
             break;
         }
-        match unit(&next, job, givens, table, board) {
-            Stepped::Next(j) => {
-                job = j;
+        match job.task() {
+            Task::Fill {
+                after,
+                source,
+                target,
+                entry,
+            } => {
+                let count = entries_now(job.width, entry, left);
+                let want = score_table::most_live();
+                score_table::fill(
+                    &next,
+                    want,
+                    job.width,
+                    job.height,
+                    after,
+                    source,
+                    target,
+                    entry,
+                    count,
+                    givens,
+                    table,
+                );
+                job = job.after_entries(count);
+                left -= count;
             }
-            Stepped::Ended => {
+            Task::Choose { row, source } => {
+                match choosing::choose(&next, job, row, source, givens, table, board) {
+                    Stepped::Next(j) => {
+                        job = j;
+                    }
+                    Stepped::Spoiled => {
+                        return Worked {
+                            job, // before the row
+                            status: Status::Refused(Refusal::SpoiledTable),
+                        };
+                    }
+                }
+                left -= 1;
+            }
+            Task::Nothing => {
                 break;
             }
-            Stepped::Spoiled => {
-                return Worked {
-                    job, // before the row
-                    status: Status::Refused(Refusal::SpoiledTable),
-                };
-            }
         }
-        left -= 1;
     }
     let stage = job.stage;
     let status = status_of(stage);

@@ -2,7 +2,8 @@
 -- Assumes nothing.
 use mathlib.Core.Path.{_≡_, _∙_, sym}
 use mathlib.Core.Bool.{true}
-use Prim.Native.Nat.{_^_, _<_, _≤_}
+use Prim.Native.Nat.{_+_, _^_, _≤_}
+use native.Mathlib.Omega.{arith}
 use borrow.Author.Needs.{needs}
 use borrow.Author.Tests.{not-true, not-false}
 use Rattle.board.specs.Boards.{maxWidth}
@@ -18,48 +19,56 @@ fitting c = sym (c .before .fits2 .ensures) ∙ not-false _ (c .if1 .left)
 narrow : (c : tie.Else1) → c .before .before .before .args .w ≤ maxWidth
 narrow c = call-memory (c .before .before .before .args .want) _ _ _ (fitting c) .narrow
 
-inside : (c : tie.Else3) → let g = c .before .before .before .before .before .before .args in g .j < 4 ^ g .w
-inside c = rw (c .before .layer-size .ensures .0) at (c .if3 .left)
+inside : (c : tie.Else4) → let g = c .before .before .before .before .before .before .before .args in g .from + g .count ≤ 4 ^ g .w
+inside c = omega (arith, c .before .before .layer-size .ensures .0, c .before .if3 .left, c .if4 .left)
 
-target-in : (c : tie.Else4) → let g = c .before .before .before .before .before .before .before .before .args in layerFits (g .w) (g .n) (g .target) ≡ true
-target-in c = sym (c .before .layer-fits .ensures) ∙ not-false _ (c .if4 .left)
+target-in : (c : tie.Else5) → let g = c .before .before .before .before .before .before .before .before .before .args in layerFits (g .w) (g .n) (g .target) ≡ true
+target-in c = sym (c .before .layer-fits .ensures) ∙ not-false _ (c .if5 .left)
 
 fits-requires : tie.Need-fits-requires
 fits-requires c κs = search needs
 
 returns : tie.Need-returns
-returns c = fits-unfit _ _ _ _ _ _ _ _ _ (sym (c .before .fits2 .ensures) ∙ not-true _ (c .if1 .taken))
+returns c = fits-unfit _ _ _ _ _ _ _ _ _ _ (sym (c .before .fits2 .ensures) ∙ not-true _ (c .if1 .taken))
 
 returns-2 : tie.Need-returns-2
-returns-2 c = fits-past _ _ _ _ _ _ _ _ _ (fitting (c .before)) (c .if2 .taken)
+returns-2 c = fits-past _ _ _ _ _ _ _ _ _ _ (fitting (c .before)) (c .if2 .taken)
 
 layer-size-requires : tie.Need-layer-size-requires
 layer-size-requires c κs = narrow (c .before)
 
 returns-3 : tie.Need-returns-3
-returns-3 c = fits-outside _ _ _ _ _ _ _ _ _ (fitting (c .before .before .before)) (c .before .before .if2 .left) (rw (c .before .layer-size .ensures .0) at (c .if3 .taken))
-
-layer-fits-requires : tie.Need-layer-fits-requires
-layer-fits-requires c κs = narrow (c .before .before .before)
+returns-3 c = fits-outside _ _ _ _ _ _ _ _ _ _ (fitting (c .before .before .before)) (c .before .before .if2 .left) (omega (arith, c .before .layer-size .ensures .0, c .if3 .taken))
 
 returns-4 : tie.Need-returns-4
 returns-4 c =
-    let d = c .before .before in
-    fits-target _ _ _ _ _ _ _ _ _ (fitting (d .before .before .before)) (d .before .before .if2 .left) (inside d) (sym (c .before .layer-fits .ensures) ∙ not-true _ (c .if4 .taken))
+    let d = c .before in
+    fits-outside _ _ _ _ _ _ _ _ _ _ (fitting (d .before .before .before)) (d .before .before .if2 .left) (omega (arith, d .before .layer-size .ensures .0, d .if3 .left, c .if4 .taken))
+
+layer-fits-requires : tie.Need-layer-fits-requires
+layer-fits-requires c κs = narrow (c .before .before .before .before)
 
 returns-5 : tie.Need-returns-5
 returns-5 c =
-    let d = c .before .before .before in
-    fits-last _ _ _ _ _ _ _ _ _ (fitting (d .before .before .before)) (d .before .before .if2 .left) (inside d) (target-in (c .before)) (c .if5 .taken)
-
-layer-fits-requires-2 : tie.Need-layer-fits-requires-2
-layer-fits-requires-2 c κs = narrow (c .before .before .before .before .before .before)
+    let d = c .before .before in
+    let e = d .before .before in
+    fits-target _ _ _ _ _ _ _ _ _ _ (fitting (e .before .before)) (e .before .if2 .left) (inside d) (sym (c .before .layer-fits .ensures) ∙ not-true _ (c .if5 .taken))
 
 returns-6 : tie.Need-returns-6
 returns-6 c =
+    let d = c .before .before .before in
+    let e = d .before .before in
+    fits-last _ _ _ _ _ _ _ _ _ _ (fitting (e .before .before)) (e .before .if2 .left) (inside d) (target-in (c .before)) (c .if6 .taken)
+
+layer-fits-requires-2 : tie.Need-layer-fits-requires-2
+layer-fits-requires-2 c κs = narrow (c .before .before .before .before .before .before .before)
+
+returns-7 : tie.Need-returns-7
+returns-7 c =
     let d = c .before .before .before .before in
+    let e = d .before .before in
     c .layer-fits2 .ensures
-    ∙ fits-source _ _ _ _ _ _ _ _ _ (fitting (d .before .before .before)) (d .before .before .if2 .left) (inside d) (target-in (c .before .before)) (c .before .if5 .left)
+    ∙ fits-source _ _ _ _ _ _ _ _ _ _ (fitting (e .before .before)) (e .before .if2 .left) (inside d) (target-in (c .before .before)) (c .before .if6 .left)
 
 pub fill-fits-spec : {M : Type 1} → statement M
 fill-fits-spec =
@@ -70,8 +79,9 @@ fill-fits-spec =
     returns-2
     layer-size-requires
     returns-3
-    layer-fits-requires
     returns-4
+    layer-fits-requires
     returns-5
+    returns-6
     layer-fits-requires-2
-    returns-6)
+    returns-7)

@@ -2,10 +2,12 @@
 -- Assumes nothing.
 use mathlib.Core.Path.{_≡_, sym, _∙_}
 use mathlib.Core.Bool.{true}
+use Prim.Native.Nat.{_≤_}
+use native.Mathlib.Omega.{arith}
 use borrow.Author.Needs.{needs}
 use borrow.Author.Tests.{not-true, not-false}
 use Rattle.job.specs.Jobs.{runsWithin}
-use Rattle.job.proofs.Shapes.{fills-entry, fills-next, rows-left}
+use Rattle.job.proofs.Shapes.{fills-on, units-on, rows-left}
 use Rattle.job.proofs.Next.{runs-within, after-never, after-fills, after-chooses, after-spent, rows-early}
 use Rattle.job.proofs.Job.after.Statement.{statement}
 use Rattle.job.proofs.Job.after.Tie as tie
@@ -23,17 +25,21 @@ returns c = after-never _ (sym (c .before .is-running .ensures) ∙ not-true _ (
 round-of-requires : tie.Need-round-of-requires
 round-of-requires c κs = let p = runs-within (c .before .before .args .self) (running c) in (p .0, p .1)
 
-after-entry-requires : tie.Need-after-entry-requires
-after-entry-requires c κs =
+-- its units fit 64 bits
+after-entries-requires : tie.Need-after-entries-requires
+after-entries-requires c κs =
     let r = c .before .before .before in
-    let p = runs-within (r .before .before .before .args .self) (running (r .before)) in
+    let s = r .before .before .before in
+    let p = runs-within (s .args .self) (running (r .before)) in
     let R = r .round-of .ensures in
-    ((p .0, p .1, fills-entry R (c .before .if2 .taken) .1), sym (fills-next R (c .before .if2 .taken)))
+    let few = s .good .0 .1 .1 .1 .1 .1 .1 .0 .1 in
+    let some : 1 ≤ r .round-of .result .left = omega (arith, c .before .if2 .taken) in
+    (units-on R (p .0) (p .1) few 1 some, sym (fills-on R 1 some))
 
 returns-2 : tie.Need-returns-2
 returns-2 c =
     let r = c .before .before .before .before in
-    c .after-entry .ensures ∙ after-fills _ (running (r .before)) (r .round-of .ensures) _ (c .before .before .if2 .taken)
+    c .after-entries .ensures ∙ after-fills _ (running (r .before)) (r .round-of .ensures) _ (c .before .before .if2 .taken)
 
 after-choice-requires : tie.Need-after-choice-requires
 after-choice-requires c κs =
@@ -62,7 +68,7 @@ after-spec =
     is-running-requires
     returns
     round-of-requires
-    after-entry-requires
+    after-entries-requires
     returns-2
     after-choice-requires
     returns-3

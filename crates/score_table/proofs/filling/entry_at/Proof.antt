@@ -21,7 +21,7 @@ two : (d : tie.After-row-codes) → d .row-codes .result ≡ 2 ^ d .before .befo
 two d = d .row-codes .ensures .0
 
 a-lt : (d : tie.After-row-codes) → let g = d .before .before .before .args in g .j / d .row-codes .result < 2 ^ g .w
-a-lt d = row-a-lt _ _ _ (two d) (d .before .before .before .pre .0 .inside)
+a-lt d = row-a-lt _ _ _ (two d) (omega (arith, d .before .before .before .pre .0 .inside))
 
 b-lt : (d : tie.After-row-codes) → let g = d .before .before .before .args in g .j % d .row-codes .result < 2 ^ g .w
 b-lt d = row-b-lt _ _ _ (two d)
