@@ -99,7 +99,7 @@ pub fn work_on(
             } => {
                 let count = entries_now(job.width, entry, left);
                 let want = score_table::most_live();
-                score_table::fill(
+                layers::fill(
                     &next,
                     want,
                     job.width,

@@ -1,4 +1,4 @@
-// The best still boards of the free squares of side 3 to 10: their scores, the units done, and that each is still. Sides 3 to 7 are solved by both
+// The best still boards of the free squares of side 3 to 10: their scores, the units done, and that each is still. Sides 3 to 9 are solved by both
 // kinds of job, and the boards compared; side 10 by two layers only, since its whole table is more than a program's stack holds.
 use job::Job;
 use job::JobResult;
@@ -37,9 +37,7 @@ fn square(side: usize, table: &mut [u16]) {
     if side == 3 {
         rows(&board);
     }
-    if side < 8 {
-        solve_again(side, score, &board, table);
-    }
+    solve_again(side, score, &board, table);
 }
 
 // Solves a square by two layers, and says whether that comes to the score and the board of the ordinary job.
@@ -119,10 +117,11 @@ fn solve_part(
     }
 }
 
-// Works in allowances of a million, 58 of which are more than side 10 has units, with a pause and a resumption before each.
+// Works in allowances of 20 million, which have whole layers of every side, and 3 of which are more than side 10 has units; with a pause and a
+// resumption before each.
 fn run(start: Job, givens: &[u8], table: &mut [u16], board: &mut [u8]) -> Job {
     let mut job = start;
-    for k in 0..58usize {
+    for k in 0..3usize {
         let paused = pause_and_resume(job);
         job = work(paused, givens, table, board);
     }
@@ -143,7 +142,7 @@ fn pause_and_resume(job: Job) -> Job {
 }
 
 fn work(job: Job, givens: &[u8], table: &mut [u16], board: &mut [u8]) -> Job {
-    let r = solver::work(job, givens, table, board, 1000000);
+    let r = solver::work(job, givens, table, board, 20000000);
     let status = r.status;
     if let Status::Refused(why) = status {
         report::refusal(why);

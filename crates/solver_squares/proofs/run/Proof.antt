@@ -1,4 +1,4 @@
--- `solver_squares::run` is safe and ends: the calls rise to 58.
+-- `solver_squares::run` is safe and ends: the calls rise to 3.
 -- Assumes nothing.
 use mathlib.Core.Path.{_≡_}
 use Prim.Native.Nat.{_-_, _≤_}
@@ -8,10 +8,10 @@ use Rattle.solver_squares.proofs.run.Statement.{statement}
 use Rattle.solver_squares.proofs.run.Tie as tie
 
 abbrev Inv-loop : tie.InvT-loop
-Inv-loop givens table₀ board₀ job₀ k₀ table board job k = (k ≤ 58) × (length table ≡ length table₀) × (length board ≡ length board₀)
+Inv-loop givens table₀ board₀ job₀ k₀ table board job k = (k ≤ 3) × (length table ≡ length table₀) × (length board ≡ length board₀)
 
 abbrev μ-loop : tie.MeasureT-loop
-μ-loop givens table₀ board₀ job₀ k₀ table board job k = 58 - k
+μ-loop givens table₀ board₀ job₀ k₀ table board job k = 3 - k
 
 loop-holds : tie.Need-loop-holds Inv-loop μ-loop
 loop-holds c = search needs

@@ -1,0 +1,1 @@
+// Column elimination for eight rows at once: definitions in specs/, laws in proofs/, no code.

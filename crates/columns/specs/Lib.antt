@@ -1,0 +1,3 @@
+-- One column for eight rows at once: what each public function leaves.
+-- Assumes nothing.
+pub mod Calls

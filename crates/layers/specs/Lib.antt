@@ -1,0 +1,3 @@
+-- A layer at once: definitions.
+-- Assumes nothing.
+pub mod Layers
