@@ -1,0 +1,3 @@
+-- A job in working calls, for C: definitions.
+-- Assumes nothing.
+pub mod InCalls
