@@ -15,7 +15,7 @@ const INFEASIBLE: usize = 1002;
 const REFUSED: usize = 1003;
 
 // Opens a job under Conway's rule, of the kind with a number, 0 ordinary, 1 two layers, and makes so many working calls of an allowance. The
-// score where the last one answers it; 1001 unfinished, also where no call is made; 1002 no still board; 1003 refused, by opening or by the last call.
+// score where the last one answers it; 1001 unfinished, also where no call is made; 1002 no still board; 1003 the number of no kind, or refused, by opening or by the last call.
 #[no_mangle]
 pub extern "C" fn work_in_calls(
     kind: usize,
@@ -61,6 +61,7 @@ fn run(
     code_of(status)
 }
 
+// The answer for what a call answers.
 fn code_of(status: Status) -> usize
     ensures { λ r. ⌜ r ≡ codeOf (statusSays status) ⌝ }
 {
