@@ -30,6 +30,10 @@ pub tied-equal : (least : Bool) {x y : ℕ} → Tied (sumWorse least) x y → x 
 tied-equal true {x} {y} e = omega (arith, ltb-false y x (e .not-worse), ltb-false x y (e .not-better))
 tied-equal false {x} {y} e = omega (arith, ltb-false x y (e .not-worse), ltb-false y x (e .not-better))
 
+-- and the other way
+pub equal-tied : (least : Bool) {x y : ℕ} → x ≡ y → Tied (sumWorse least) x y
+equal-tied least {x} {y} e = rw e (tied-refl (sum-worse-ordered least) y)
+
 sum-worse-add : (least : Bool) (u x y : ℕ) → sumWorse least x y ≡ true → sumWorse least (u + x) (u + y) ≡ true
 sum-worse-add true u x y p = lt-ltb (u + y) (u + x) (omega (arith, ltb-true y x p))
 sum-worse-add false u x y p = lt-ltb (u + x) (u + y) (omega (arith, ltb-true x y p))

@@ -5,6 +5,7 @@ pub mod Candidates
 pub mod Kind
 pub mod Endings
 pub mod Sums
+pub mod Boards
 pub mod Table
 pub mod Task
 pub mod Machine

@@ -11,7 +11,7 @@ use lib.Arith.{digits-lt}
 use lib.IntN.{ℤ, pos, negsuc, sucℤ, predℤ}
 use lib.ListN.{length, getD, List·getD-eq-default}
 use native.Mathlib.Decide.{decLt}
-use Rattle.board.specs.Boards.{among, Board}
+use Rattle.board.specs.Boards.{among, Bytes}
 use Rattle.board.proofs.Tests.{among-past, and-false, byte-at}
 use Rattle.life.specs.Plane.{onPlane, around}
 
@@ -75,11 +75,11 @@ pub on-board-at : (w h : ℕ) (cells : List ℕ) (i j : ℕ) → 2 ≤ i → i �
 on-board-at w h cells i j p q s t = rw (pred-two i p, pred-two j s) (on-board w h cells (i - 2) (j - 2) (omega arith) (omega arith))
 
 -- ---- cells are 0 or 1
-module _ {w h : ℕ} {cells : List ℕ} (b : Board w h cells) where
+module _ {w h : ℕ} {cells : List ℕ} (b : Bytes 1 w h cells) where
   pub state-small : (k : ℕ) → getD cells k 0 ≤ 1
   state-small k =
       elim (decLt k (length cells)) [
-        | yes l ↦ b .bytes .states k l
+        | yes l ↦ b .states k l
         | no n ↦ let e : getD cells k 0 ≡ 0 = List·getD-eq-default cells 0 (omega arith) in omega arith
       ]
 
@@ -95,7 +95,7 @@ module _ {w h : ℕ} {cells : List ℕ} (b : Board w h cells) where
 
   -- a cell's place is within the board
   pub place-within : {r c : ℕ} → r < h → c < w → r * w + c < length cells
-  place-within {r} {c} p q = let l = digits-lt {q = r} {m = h} {r = c} {c = w} p q in omega (arith, b .bytes .long, mul-comm w h)
+  place-within {r} {c} p q = let l = digits-lt {q = r} {m = h} {r = c} {c = w} p q in omega (arith, b .long, mul-comm w h)
 
   -- the pattern around a cell is one of 512
   pub around-small : (r c : ℤ) → around (onPlane w h cells) r c < 512

@@ -1,4 +1,5 @@
--- A board is still exactly when its rows agree: a row's number has the row's cells as its digits.
+-- A board steps to a target exactly when its rows step to the target's, and so is still exactly when they agree: a row's number has the row's cells
+-- as its digits.
 -- Assumes nothing.
 use mathlib.Core.Path.{_≡_, refl, _∙_, sym, fun-ext}
 use mathlib.Core.Bool.{Bool, true, false, cond, _&&_}
@@ -12,15 +13,14 @@ use native.Mathlib.Decide.{decLt}
 use borrow.Author.Tests.{eqb-true, eq-eqb}
 use lib.IntN.{ℤ, pos, negsuc, sucℤ, predℤ}
 use lib.ListN.{getD}
-use Rattle.board.specs.Boards.{Board}
+use Rattle.board.specs.Boards.{among, Bytes}
 use Rattle.board.proofs.Search.{all-of, all-at}
-use Rattle.board.specs.Boards.{among}
 use Rattle.board.proofs.Tests.{among-in}
-use Rattle.life.specs.Plane.{Plane, onPlane, nine, around, tableStep, StillBy}
-use Rattle.life.specs.Rows.{rowNumber, rowOf, cellOf, becomes, stepsTo, agree, RowsAgree}
-use Rattle.life.specs.Theorems.{StillByRowsBy}
+use Rattle.life.specs.Plane.{Plane, onPlane, nine, around, tableStep, StillBy, LeadsToBy}
+use Rattle.life.specs.Rows.{rowNumber, rowOf, cellOf, becomes, stepsTo, RowsAgree, RowsStepTo}
+use Rattle.life.specs.Theorems.{StillByRowsBy, StepsByRowsBy}
 use Rattle.life.proofs.OnPlane.{Off, before, nought, past, off-row, state-small}
-use Rattle.life.proofs.Far.{still-of-ring}
+use Rattle.life.proofs.Far.{leads-of-ring}
 
 -- ---- digits
 module _ (cells : List ℕ) (small : (k : ℕ) → getD cells k 0 ≤ 1) (place : ℕ) where
@@ -58,7 +58,7 @@ pub off-cells : (w h : ℕ) (cells : List ℕ) {r : ℤ} → Off h r → cellOf 
 off-cells w h cells o = fun-ext λ c. zero-cell w c ∙ sym (off-row w h cells o c)
 
 -- a row's number has the board's cells
-pub row-cells : {w h : ℕ} {cells : List ℕ} → Board w h cells → (r : ℕ) → cellOf w (rowOf w h cells r) ≡ onPlane w h cells (pos r)
+pub row-cells : {w h : ℕ} {cells : List ℕ} → Bytes 1 w h cells → (r : ℕ) → cellOf w (rowOf w h cells r) ≡ onPlane w h cells (pos r)
 unfolding cellOf rowOf onPlane
 row-cells {w} {h} {cells} b r = fun-ext at
   where
@@ -91,33 +91,39 @@ steps-cells next w a b c t {A} {B} {C} {U} ea eb ec et = (there, back)
     back f = all-of (becomes next w a b c t) (w + 2) (λ j l. rw (ea, eb, ec, et) (eq-eqb _ _ (f j (omega arith))))
 
 -- ---- the theorem
-module _ (next : ℕ → ℕ) {w h : ℕ} {cells : List ℕ} (b : Board w h cells) where
+module _ (next : ℕ → ℕ) {w h : ℕ} {cells target : List ℕ} (b : Bytes 1 w h cells) (t : Bytes 1 w h target) where
   abbrev P : Plane
   P = onPlane w h cells
 
-  -- no cell of a row changes, columns 0 to w + 1
-  abbrev KeepsRow : ℤ → Type 0
-  KeepsRow r = (j : ℕ) → j ≤ w + 1 → next (nine (P (predℤ r)) (P r) (P (sucℤ r)) (pos j)) ≡ P r (pos j)
+  abbrev Q : Plane
+  Q = onPlane w h target
+
+  -- a row steps to the target's, columns 0 to w + 1
+  abbrev StepsRow : ℤ → Type 0
+  StepsRow r = (j : ℕ) → j ≤ w + 1 → next (nine (P (predℤ r)) (P r) (P (sucℤ r)) (pos j)) ≡ Q r (pos j)
 
   off : {r : ℤ} → Off h r → cellOf w 0 ≡ P r
   off = off-cells w h cells
 
-  first-row : agree next w 0 0 (rowOf w h cells 1) ≡ true ↔ KeepsRow (pos 0)
-  first-row = steps-cells next w 0 0 (rowOf w h cells 1) 0 (off (before 0)) (off nought) (row-cells b 1) (off nought)
+  off-target : {r : ℤ} → Off h r → cellOf w 0 ≡ Q r
+  off-target = off-cells w h target
 
-  each-row : (r : ℕ) → agree next w (rowOf w h cells r) (rowOf w h cells (suc r)) (rowOf w h cells (suc (suc r))) ≡ true ↔ KeepsRow (pos (suc r))
+  first-row : stepsTo next w 0 0 (rowOf w h cells 1) 0 ≡ true ↔ StepsRow (pos 0)
+  first-row = steps-cells next w 0 0 (rowOf w h cells 1) 0 (off (before 0)) (off nought) (row-cells b 1) (off-target nought)
+
+  each-row : (r : ℕ) → stepsTo next w (rowOf w h cells r) (rowOf w h cells (suc r)) (rowOf w h cells (suc (suc r))) (rowOf w h target (suc r)) ≡ true ↔ StepsRow (pos (suc r))
   each-row r =
-      steps-cells next w (rowOf w h cells r) (rowOf w h cells (suc r)) (rowOf w h cells (suc (suc r))) (rowOf w h cells (suc r)) (row-cells b r)
-      (row-cells b (suc r)) (row-cells b (suc (suc r))) (row-cells b (suc r))
+      steps-cells next w (rowOf w h cells r) (rowOf w h cells (suc r)) (rowOf w h cells (suc (suc r))) (rowOf w h target (suc r)) (row-cells b r)
+      (row-cells b (suc r)) (row-cells b (suc (suc r))) (row-cells t (suc r))
 
-  last-row : agree next w (rowOf w h cells h) 0 0 ≡ true ↔ KeepsRow (pos (suc h))
+  last-row : stepsTo next w (rowOf w h cells h) 0 0 0 ≡ true ↔ StepsRow (pos (suc h))
   last-row =
-      let e = off (past (suc h) (omega arith)) in
-      steps-cells next w (rowOf w h cells h) 0 0 0 (row-cells b h) e (off (past (suc (suc h)) (omega arith))) e
+      let o : Off h (pos (suc h)) = past (suc h) (omega arith) in
+      steps-cells next w (rowOf w h cells h) 0 0 0 (row-cells b h) (off o) (off (past (suc (suc h)) (omega arith))) (off-target o)
 
-  rows-of-still : StillBy next P → RowsAgree next w h cells
-  unfolding StillBy around
-  rows-of-still s =
+  rows-of-steps : LeadsToBy next P Q → RowsStepTo next w h cells target
+  unfolding LeadsToBy around
+  rows-of-steps s =
       record {
         first = first-row .1 (λ j l. s (pos 0) (pos j));
         each = λ r l. rw (add-one r, add-two r) (each-row r .1 (λ j l. s (pos (suc r)) (pos j)));
@@ -125,17 +131,30 @@ module _ (next : ℕ → ℕ) {w h : ℕ} {cells : List ℕ} (b : Board w h cell
       }
 
   module _ (quiet : next 0 ≡ 0) where
-    still-of-rows : RowsAgree next w h cells → StillBy next P
+    steps-of-rows : RowsStepTo next w h cells target → LeadsToBy next P Q
     unfolding around
-    still-of-rows a = still-of-ring w h cells next quiet kept
+    steps-of-rows a = leads-of-ring w h cells next quiet target steps
       where
-        kept : (r c : ℕ) → r ≤ h + 1 → c ≤ w + 1 → tableStep next P (pos r) (pos c) ≡ P (pos r) (pos c)
-        kept zero c p q = first-row .0 (a .first) c q
-        kept (suc r) c p q =
+        steps : (r c : ℕ) → r ≤ h + 1 → c ≤ w + 1 → tableStep next P (pos r) (pos c) ≡ Q (pos r) (pos c)
+        steps zero c p q = first-row .0 (a .first) c q
+        steps (suc r) c p q =
             elim (decLt r h) [
               | yes l ↦ each-row r .0 (rw (add-one r, add-two r) at (a .each r l)) c q
               | no n ↦ let e : r ≡ h = omega arith in rw e (last-row .0 (a .last) c q)
             ]
 
+pub steps-by-rows : (next : ℕ → ℕ) → next 0 ≡ 0 → StepsByRowsBy next
+steps-by-rows next quiet w h cells target b t = (rows-of-steps next b t, steps-of-rows next b t quiet)
+
+-- ---- a board that steps to itself is still
+pub agree-steps : {next : ℕ → ℕ} {w h : ℕ} {cells : List ℕ} → RowsAgree next w h cells → RowsStepTo next w h cells cells
+agree-steps a = record { first = a .first; each = a .each; last = a .last }
+
+pub steps-agree : {next : ℕ → ℕ} {w h : ℕ} {cells : List ℕ} → RowsStepTo next w h cells cells → RowsAgree next w h cells
+steps-agree a = record { first = a .first; each = a .each; last = a .last }
+
 pub still-by-rows : (next : ℕ → ℕ) → next 0 ≡ 0 → StillByRowsBy next
-still-by-rows next quiet w h cells b = (rows-of-still next b, still-of-rows next b quiet)
+unfolding StillBy LeadsToBy
+still-by-rows next quiet w h cells b =
+    let j = steps-by-rows next quiet w h cells cells (b .bytes) (b .bytes) in
+    (λ s. steps-agree (j .0 s), λ a. j .1 (agree-steps a))

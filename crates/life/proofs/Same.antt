@@ -5,12 +5,12 @@ use mathlib.Core.List.{List}
 use Prim.Native.Nat.{ℕ, _+_, _/_, _%_, _<_}
 use lib.IntN.{pos}
 use Rattle.board.specs.Search.{firstNot}
-use Rattle.board.specs.Boards.{Board}
+use Rattle.board.specs.Boards.{Bytes}
 use Rattle.board.specs.Lists.{listed}
 use Rattle.life.specs.Calls.{nextAt, keepsAt, stepped, judged, ringSize, verdictAt}
 use Rattle.life.proofs.OnPlane.{around-small}
 
-module _ (next other : ℕ → ℕ) (same : (p : ℕ) → p < 512 → next p ≡ other p) {w h : ℕ} {cells : List ℕ} (b : Board w h cells) where
+module _ (next other : ℕ → ℕ) (same : (p : ℕ) → p < 512 → next p ≡ other p) {w h : ℕ} {cells : List ℕ} (b : Bytes 1 w h cells) where
   at-place : (k : ℕ) → nextAt next w h cells k ≡ nextAt other w h cells k
   unfolding nextAt
   at-place k = same _ (around-small b (pos (k / (w + 2))) (pos (k % (w + 2))))

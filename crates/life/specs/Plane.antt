@@ -36,6 +36,10 @@ lifeStep P r c = nextState (P r c) (neighbours P r c)
 unfoldable pub Still : Rule → Plane → Type 0
 Still rule P = (r c : ℤ) → stepUnder rule P r c ≡ P r c
 
+-- one step under the rule makes the plane P the plane Q
+unfoldable pub LeadsTo : Rule → Plane → Plane → Type 0
+LeadsTo rule P Q = (r c : ℤ) → stepUnder rule P r c ≡ Q r c
+
 -- three neighbouring cells of a row, as three digits
 abbrev pub three : (ℤ → ℕ) → ℤ → ℕ
 three row c = 4 * row (predℤ c) + 2 * row c + row (sucℤ c)
@@ -55,3 +59,7 @@ tableStep next P r c = next (around P r c)
 -- one step by the table changes no cell of the plane
 unfoldable pub StillBy : (ℕ → ℕ) → Plane → Type 0
 StillBy next P = (r c : ℤ) → tableStep next P r c ≡ P r c
+
+-- one step by the table makes the plane P the plane Q
+unfoldable pub LeadsToBy : (ℕ → ℕ) → Plane → Plane → Type 0
+LeadsToBy next P Q = (r c : ℤ) → tableStep next P r c ≡ Q r c

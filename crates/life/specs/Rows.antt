@@ -54,3 +54,10 @@ pub record RowsAgree (next : ℕ → ℕ) (w h : ℕ) (cells : List ℕ) : Type 
   pub first : agree next w 0 0 (rowOf w h cells 1) ≡ true
   pub each : (r : ℕ) → r < h → agree next w (rowOf w h cells r) (rowOf w h cells (r + 1)) (rowOf w h cells (r + 2)) ≡ true
   pub last : agree next w (rowOf w h cells h) 0 0 ≡ true
+
+-- rows (0, 0, first) step to row 0, every three neighbouring rows counted with rows 0 and h + 1 to the target's row in the middle, and
+-- (last, 0, 0) to row 0
+pub record RowsStepTo (next : ℕ → ℕ) (w h : ℕ) (cells target : List ℕ) : Type 0 where
+  pub first : stepsTo next w 0 0 (rowOf w h cells 1) 0 ≡ true
+  pub each : (r : ℕ) → r < h → stepsTo next w (rowOf w h cells r) (rowOf w h cells (r + 1)) (rowOf w h cells (r + 2)) (rowOf w h target (r + 1)) ≡ true
+  pub last : stepsTo next w (rowOf w h cells h) 0 0 0 ≡ true

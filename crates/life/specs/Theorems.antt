@@ -7,11 +7,11 @@ use Prim.Native.Nat.{ℕ, _+_, _^_, _<_, _≤_}
 use lib.IntN.{ℤ, pos, negsuc, sucℤ}
 use lib.ListN.{length}
 use Rattle.board.specs.Answers.{passed}
-use Rattle.board.specs.Boards.{Board}
+use Rattle.board.specs.Boards.{Bytes, Board}
 use Rattle.rule.specs.Rule.{hasCount, Allowed, conwayRule, nextUnder}
 use Rattle.rule.specs.declared.Rule.{Rule}
-use Rattle.life.specs.Plane.{Plane, onPlane, three, stepUnder, lifeStep, tableStep, Still, StillBy}
-use Rattle.life.specs.Rows.{RowsAgree, cellOf, window}
+use Rattle.life.specs.Plane.{Plane, onPlane, three, stepUnder, lifeStep, tableStep, Still, LeadsTo, StillBy, LeadsToBy}
+use Rattle.life.specs.Rows.{RowsAgree, RowsStepTo, cellOf, window}
 use Rattle.life.specs.Calls.{lifeCheck, stepped, judged, stepRule, stepWrites, judgeRule, verdictSays, still, changes}
 use Rattle.life.specs.declared.Verdict.{Verdict}
 
@@ -43,8 +43,14 @@ StepRightBy next =
 abbrev pub StillByRowsBy : (ℕ → ℕ) → Type 0
 StillByRowsBy next = (w h : ℕ) (cells : List ℕ) → Board w h cells → StillBy next (onPlane w h cells) ↔ RowsAgree next w h cells
 
+-- one step makes a board of any size the target exactly when its rows step to the target's
+abbrev pub StepsByRowsBy : (ℕ → ℕ) → Type 0
+StepsByRowsBy next =
+    (w h : ℕ) (cells target : List ℕ) → Bytes 1 w h cells → Bytes 1 w h target →
+    LeadsToBy next (onPlane w h cells) (onPlane w h target) ↔ RowsStepTo next w h cells target
+
 abbrev pub ForEveryTable : Type 0
-ForEveryTable = (next : ℕ → ℕ) → next 0 ≡ 0 → JudgeRightBy next × StepRightBy next × StillByRowsBy next
+ForEveryTable = (next : ℕ → ℕ) → next 0 ≡ 0 → JudgeRightBy next × StepRightBy next × StillByRowsBy next × StepsByRowsBy next
 
 -- ---- under every rule, by the neighbour count
 -- the checks of stepping and judging turn away exactly the barred rules and what is no board
@@ -70,6 +76,13 @@ abbrev pub StillByRows : Type 0
 StillByRows =
     (rule : Rule) → Allowed rule →
     (w h : ℕ) (cells : List ℕ) → Board w h cells → Still rule (onPlane w h cells) ↔ RowsAgree (nextUnder rule) w h cells
+
+-- one step makes a board of any size the target, every other cell of the plane dead, exactly when its rows step to the target's
+abbrev pub StepsByRows : Type 0
+StepsByRows =
+    (rule : Rule) → Allowed rule →
+    (w h : ℕ) (cells target : List ℕ) → Bytes 1 w h cells → Bytes 1 w h target →
+    LeadsTo rule (onPlane w h cells) (onPlane w h target) ↔ RowsStepTo (nextUnder rule) w h cells target
 
 -- row or column r is past the ring around rows or columns 1 to n
 pub data Past (n : ℕ) : ℤ → Type 0 where

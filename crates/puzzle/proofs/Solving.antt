@@ -42,7 +42,7 @@ check-passed w h g t β e =
 score-le : {w h : ℕ} (g : List ℕ) {cells : List ℕ} → Board w h cells → score w h g cells ≤ w * h
 unfolding score
 score-le {w} {h} g {cells} B =
-    let l = total-le (λ p. cellWorth (getD g p 0) (getD cells p 0)) 1 (λ p. omega (arith, cell-worth-le (getD g p 0) (getD cells p 0), state-small B p)) (w * h) in
+    let l = total-le (λ p. cellWorth (getD g p 0) (getD cells p 0)) 1 (λ p. omega (arith, cell-worth-le (getD g p 0) (getD cells p 0), state-small (B .bytes) p)) (w * h) in
     omega arith
 
 -- ---- with a score, the board is one, and the score has at most three digits

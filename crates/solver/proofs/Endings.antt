@@ -1,41 +1,40 @@
 -- The kind of job that row elimination is put to is lawful, and its endings are the still boards that keep the givens.
 -- Assumes nothing.
-use mathlib.Core.Path.{_≡_, refl, sym, _∙_, ap, subst}
+use mathlib.Core.Path.{_≡_, refl, sym, subst}
 use mathlib.Core.Bool.{Bool, true, _&&_}
-use mathlib.Core.List.{List, _∷_}
+use mathlib.Core.List.{List}
 use mathlib.Core.Logic.{⊎-elim}
-use Prim.Native.Nat.{ℕ, zero, suc, _+_, _*_, _-_, _≤_, _<_}
+use Prim.Native.Nat.{ℕ, zero, suc, _+_, _*_, _-_, _<_}
 use native.Mathlib.Nat.{eq-or-lt-of-le, mul-le-mul-right}
 use native.Mathlib.Numerals.{add-one, add-two}
 use native.Mathlib.Omega.{arith}
 use borrow.Author.Tests.{eq-eqb, ne-eqb, eqb-true}
 use lib.Dec.{lit<}
-use lib.ListN.{length, getD}
-use Rattle.board.specs.Boards.{Sized, Board}
+use lib.ListN.{getD}
+use Rattle.board.specs.Boards.{Sized, Bytes, Board}
 use Rattle.board.proofs.Search.{all-of, all-at}
 use Rattle.board.proofs.Tests.{and-left, and-right, and-true}
 use Rattle.elimination.specs.Kind.{Kind}
 use Rattle.elimination.specs.Endings.{Ending, Laws, total}
-use Rattle.elimination.proofs.Endings.{total-none, total-more}
+use Rattle.elimination.specs.Boards.{previousRow}
 use Rattle.elimination.proofs.Sums.{sums-lawful}
+use Rattle.elimination.proofs.Boards.{endings-stand, rows-worth}
 use Rattle.rule.specs.Rule.{Allowed, nextUnder}
 use Rattle.rule.specs.declared.Rule.{Rule}
-use Rattle.life.specs.Rows.{rowOf, digitIn, agree, RowsAgree}
+use Rattle.life.specs.Rows.{rowOf, digitIn, stepsTo, agree, RowsStepTo}
 use Rattle.life.proofs.OnPlane.{place-within}
+use Rattle.life.proofs.Rows.{agree-steps, steps-agree}
 use Rattle.life.proofs.Theorems.{rows-life}
 use Rattle.solver.specs.Grid.{KeepsGivens, Solution, score}
-use Rattle.score_table.specs.Rows.{rowWorth, markKept, rowKept}
+use Rattle.score_table.specs.Rows.{markKept, rowKept}
 use Rattle.score_table.specs.ScoreTable.{mostLive, rules, kindOf}
-use Rattle.solver.specs.Theorems.{nextRows, allRows}
+use Rattle.solver.specs.Theorems.{allRows}
 use Rattle.score_table.proofs.Marks.{MarkIs, isDead, isLive, isFree, mark-is, row-worth-le}
 use Rattle.solver.proofs.RowLaws.{row-none, row-past, row-lt, row-digit, Place, place, score-more, score-none}
 
--- the kind of job, and where a board may end
+-- the kind of job
 abbrev pub kind : Rule → ℕ → ℕ → List ℕ → Kind ℕ
 kind rule w h g = kindOf (nextUnder rule) w h g
-
-abbrev ends : Rule → ℕ → ℕ → ℕ → Bool
-ends rule w a b = agree (nextUnder rule) w a b 0 && agree (nextUnder rule) w b 0 0
 
 pub kind-laws : (rule : Rule) (w h : ℕ) (g : List ℕ) → Sized w h → Laws (kind rule w h g) h
 kind-laws rule w h g z =
@@ -60,135 +59,114 @@ mark-live : (mark cell : ℕ) → markKept mark cell ≡ true → mark ≡ 2 →
 unfolding markKept
 mark-live mark cell k e = eqb-true cell 1 (rw (ne-eqb mark 1 (omega arith), eq-eqb mark 2 e) at k)
 
-module _ {rule : Rule} (allowed : Allowed rule) {w h : ℕ} {board : List ℕ} (B : Board w h board) where
+-- ---- rows that step to a target's, in the order in which they are chosen
+module _ (next : ℕ → ℕ) (w h : ℕ) (board target : List ℕ) where
   abbrev row : ℕ → ℕ
   row r = rowOf w h board r
 
-  -- the row before row r; the two above row 1 are 0
   abbrev over : ℕ → ℕ
-  over zero = 0
-  over (suc r) = row r
+  over r = previousRow (rowOf w h board) r
 
-  -- ---- the rows agree, in the order in which they are chosen
-  record Agrees : Type 0 where
-    chosen : (r : ℕ) → r < h → agree (nextUnder rule) w (over r) (row r) (row (suc r)) ≡ true
-    final : ends rule w (over h) (row h) ≡ true
+  abbrev targetRow : ℕ → ℕ
+  targetRow r = rowOf w h target r
 
-  agrees-of : RowsAgree (nextUnder rule) w h board → Agrees
-  agrees-of A = record { chosen = chosen; final = final h refl }
+  abbrev endsAt : ℕ → Bool
+  endsAt r = stepsTo next w (over r) (row r) 0 (targetRow r) && stepsTo next w (row r) 0 0 0
+
+  record InOrder : Type 0 where
+    chosen : (r : ℕ) → r < h → stepsTo next w (over r) (row r) (row (suc r)) (targetRow r) ≡ true
+    final : endsAt h ≡ true
+
+  in-order : 0 < h → RowsStepTo next w h board target → InOrder
+  in-order high A = record { chosen = chosen; final = final h refl }
     where
-      chosen : (r : ℕ) → r < h → agree (nextUnder rule) w (over r) (row r) (row (suc r)) ≡ true
-      chosen zero l = rw (row-none w h board) (A .first)
+      chosen : (r : ℕ) → r < h → stepsTo next w (over r) (row r) (row (suc r)) (targetRow r) ≡ true
+      chosen zero l = rw (row-none w h board, row-none w h target) (A .first)
       chosen (suc r) l = rw (add-one r, add-two r) at (A .each r (omega arith))
 
-      final : (i : ℕ) → i ≡ h → ends rule w (over i) (row i) ≡ true
-      final zero e = absurd (omega (arith, B .size .some-row))
+      final : (i : ℕ) → i ≡ h → endsAt i ≡ true
+      final zero e = absurd (omega arith)
       final (suc i) e =
           and-true (rw (add-one i, add-two i, row-past w h board (suc (suc i)) (omega arith)) at (A .each i (omega arith)))
-          (subst (λ (x : ℕ). agree (nextUnder rule) w (row x) 0 0 ≡ true) (sym e) (A .last))
+          (subst (λ (x : ℕ). stepsTo next w (row x) 0 0 0 ≡ true) (sym e) (A .last))
 
-  rows-agree : Agrees → RowsAgree (nextUnder rule) w h board
-  rows-agree A = record {
-    first = rw (row-none w h board) at (A .chosen 0 (B .size .some-row));
+  rows-step : 0 < h → InOrder → RowsStepTo next w h board target
+  rows-step high A = record {
+    first = rw (row-none w h board, row-none w h target) at (A .chosen 0 high);
     each = λ r l. rw (add-one r, add-two r) (each r l);
-    last = and-right (agree (nextUnder rule) w (over h) (row h) 0) (agree (nextUnder rule) w (row h) 0 0) (A .final);
+    last = and-right (stepsTo next w (over h) (row h) 0 (targetRow h)) (stepsTo next w (row h) 0 0 0) (A .final);
   }
     where
-      each : (r : ℕ) → r < h → agree (nextUnder rule) w (row r) (row (suc r)) (row (suc (suc r))) ≡ true
+      each : (r : ℕ) → r < h → stepsTo next w (row r) (row (suc r)) (row (suc (suc r))) (targetRow (suc r)) ≡ true
       each r l =
           ⊎-elim
           (λ (e : suc r ≡ h).
           rw (row-past w h board (suc (suc r)) (omega arith))
-          (subst (λ (x : ℕ). agree (nextUnder rule) w (over x) (row x) 0 ≡ true) (sym e) (and-left (agree (nextUnder rule) w (over h) (row h) 0) (agree (nextUnder rule) w (row h) 0 0) (A .final))))
+          (subst (λ (x : ℕ). stepsTo next w (over x) (row x) 0 (targetRow x) ≡ true) (sym e) (and-left (stepsTo next w (over h) (row h) 0 (targetRow h)) (stepsTo next w (row h) 0 0 0) (A .final))))
           (λ (q : suc r < h). A .chosen (suc r) q) (eq-or-lt-of-le l)
 
-  -- ---- every row keeps its givens
-  module _ (g : List ℕ) where
-    abbrev RowsKept : Type 0
-    RowsKept = (r : ℕ) → r < h → rowKept w g (r * w) (row (suc r)) ≡ true
+-- ---- every row keeps its givens
+module _ {w h : ℕ} {board : List ℕ} (b : Bytes 1 w h board) (g : List ℕ) where
+  abbrev RowsKept : Type 0
+  RowsKept = (r : ℕ) → r < h → rowKept w g (r * w) (rowOf w h board (suc r)) ≡ true
 
-    kept-of : KeepsGivens w h g board → RowsKept
-    unfolding rowKept
-    kept-of K r l =
-        all-of (λ k. markKept (getD g (r * w + k) 0) (digitIn w (row (suc r)) (k + 1))) w
-        (λ k q.
-        let m : r * w + k < w * h = rw (B .bytes .long) at (place-within B l q) in
-        rw (row-digit B r k l q) (mark-of (getD g (r * w + k) 0) (getD board (r * w + k) 0) (K .dead (r * w + k) m) (K .live (r * w + k) m)))
+  kept-of : KeepsGivens w h g board → RowsKept
+  unfolding rowKept
+  kept-of K r l =
+      all-of (λ k. markKept (getD g (r * w + k) 0) (digitIn w (rowOf w h board (suc r)) (k + 1))) w
+      (λ k q.
+      let m : r * w + k < w * h = rw (b .long) at (place-within b l q) in
+      rw (row-digit b r k l q) (mark-of (getD g (r * w + k) 0) (getD board (r * w + k) 0) (K .dead (r * w + k) m) (K .live (r * w + k) m)))
 
-    keeps-at : RowsKept → (p : ℕ) → Place w h p → markKept (getD g p 0) (getD board p 0) ≡ true
-    unfolding rowKept
-    keeps-at K p q =
-        rw (q .is)
-        (rw (row-digit B (q .row) (q .column) (q .inside) (q .narrow)) at
-        (all-at (λ k. markKept (getD g (q .row * w + k) 0) (digitIn w (row (suc (q .row))) (k + 1))) w (K (q .row) (q .inside)) (q .column) (q .narrow)))
+  keeps-at : RowsKept → (p : ℕ) → Place w h p → markKept (getD g p 0) (getD board p 0) ≡ true
+  unfolding rowKept
+  keeps-at K p q =
+      rw (q .is)
+      (rw (row-digit b (q .row) (q .column) (q .inside) (q .narrow)) at
+      (all-at (λ k. markKept (getD g (q .row * w + k) 0) (digitIn w (rowOf w h board (suc (q .row))) (k + 1))) w (K (q .row) (q .inside)) (q .column) (q .narrow)))
 
-    keeps-of : RowsKept → KeepsGivens w h g board
-    keeps-of K = record {
-      dead = λ p l e. mark-dead (getD g p 0) (getD board p 0) (keeps-at K p (place w h p (B .size .some-column) l)) e;
-      live = λ p l e. mark-live (getD g p 0) (getD board p 0) (keeps-at K p (place w h p (B .size .some-column) l)) e;
-    }
+  keeps-of : 0 < w → RowsKept → KeepsGivens w h g board
+  keeps-of wide K = record {
+    dead = λ p l e. mark-dead (getD g p 0) (getD board p 0) (keeps-at K p (place w h p wide l)) e;
+    live = λ p l e. mark-live (getD g p 0) (getD board p 0) (keeps-at K p (place w h p wide l)) e;
+  }
 
-    -- ---- endings
-    ends-of : Agrees → RowsKept → (k r : ℕ) → r + k ≡ h → Ending (kind rule w h g) k (over r) (row r) (nextRows w h board r k)
-    unfolding nextRows
-    ends-of A K zero r e = let z : h ≡ r = omega arith in subst (λ (x : ℕ). ends rule w (over x) (row x) ≡ true) z (A .final)
-    ends-of A K (suc k) r e =
-        let z : h - suc k ≡ r = omega arith in
-        (row-lt B (suc r), rw z (and-true (A .chosen r (omega arith)) (K r (omega arith))), ends-of A K k (suc r) (omega arith))
+-- ---- a board is an ending below two dead rows exactly when it is a solution
+-- the row with r rows above it has h - r - 1 rows after it
+rows-over : {h r : ℕ} → r < h → h - suc (h - suc r) ≡ r
+rows-over l = omega arith
 
-    -- and the other way
-    ends-may : (k r : ℕ) → r + k ≡ h → Ending (kind rule w h g) k (over r) (row r) (nextRows w h board r k)
-        → (i : ℕ) → r ≤ i → i < h → agree (nextUnder rule) w (over i) (row i) (row (suc i)) && rowKept w g (i * w) (row (suc i)) ≡ true
-    unfolding nextRows
-    ends-may zero r e E i l m = absurd (omega arith)
-    ends-may (suc k) r e E i l m =
-        ⊎-elim
-        (λ (q : r ≡ i).
-        let z : h - suc k ≡ r = omega arith in
-        subst (λ (x : ℕ). agree (nextUnder rule) w (over x) (row x) (row (suc x)) && rowKept w g (x * w) (row (suc x)) ≡ true) q (rw z at (E .1)))
-        (λ (q : r < i). ends-may k (suc r) (omega arith) (E .2) i q m) (eq-or-lt-of-le l)
+module _ {rule : Rule} (allowed : Allowed rule) {w h : ℕ} {board : List ℕ} (B : Board w h board) (g : List ℕ) where
+  abbrev agreed : ℕ → Bool
+  agreed r = agree (nextUnder rule) w (previousRow (rowOf w h board) r) (rowOf w h board r) (rowOf w h board (suc r))
 
-    ends-final : (k r : ℕ) → r + k ≡ h → Ending (kind rule w h g) k (over r) (row r) (nextRows w h board r k) → ends rule w (over h) (row h) ≡ true
-    unfolding nextRows
-    ends-final zero r e E = let z : r ≡ h = omega arith in subst (λ (x : ℕ). ends rule w (over x) (row x) ≡ true) z E
-    ends-final (suc k) r e E = ends-final k (suc r) (omega arith) (E .2)
+  abbrev keeps : ℕ → Bool
+  keeps r = rowKept w g (r * w) (rowOf w h board (suc r))
 
-    -- a board is an ending below two dead rows exactly when it is a solution
-    pub solution-ends : Solution rule w h g board → Ending (kind rule w h g) h 0 0 (allRows w h board)
-    solution-ends S =
-        subst (λ (x : ℕ). Ending (kind rule w h g) h 0 x (allRows w h board)) (row-none w h board)
-        (ends-of (agrees-of (rows-life rule allowed w h board B .0 (S .still))) (kept-of (S .keeps)) h 0 (omega arith))
+  pub solution-ends : Solution rule w h g board → Ending (kind rule w h g) h 0 0 (allRows w h board)
+  solution-ends S =
+      let A = in-order (nextUnder rule) w h board board (B .size .some-row) (agree-steps (rows-life rule allowed w h board B .0 (S .still))) in
+      endings-stand (kind rule w h g) h (rowOf w h board) (row-none w h board) .1 (record {
+        below = λ r l. row-lt (B .bytes) (suc r);
+        each = λ r l. rw (rows-over l) (and-true (A .chosen r l) (kept-of (B .bytes) g (S .keeps) r l));
+        final = A .final;
+      })
 
-    pub ends-solution : Ending (kind rule w h g) h 0 0 (allRows w h board) → Solution rule w h g board
-    ends-solution E =
-        let E₀ = subst (λ (x : ℕ). Ending (kind rule w h g) h 0 x (allRows w h board)) (sym (row-none w h board)) E in
-        let m = ends-may h 0 (omega arith) E₀ in record {
-          grid = B;
-          still = rows-life rule allowed w h board B .1 (rows-agree (record {
-            chosen = λ r l. and-left (agree (nextUnder rule) w (over r) (row r) (row (suc r))) (rowKept w g (r * w) (row (suc r))) (m r (omega arith) l);
-            final = ends-final h 0 (omega arith) E₀;
-          }));
-          keeps = keeps-of (λ r l. and-right (agree (nextUnder rule) w (over r) (row r) (row (suc r))) (rowKept w g (r * w) (row (suc r))) (m r (omega arith) l));
-        }
+  pub ends-solution : Ending (kind rule w h g) h 0 0 (allRows w h board) → Solution rule w h g board
+  ends-solution E =
+      let T = endings-stand (kind rule w h g) h (rowOf w h board) (row-none w h board) .0 E in
+      let m : (r : ℕ) → r < h → agreed r && keeps r ≡ true = λ r l. rw (rows-over l) at (T .each r l) in
+      record {
+        grid = B;
+        still = rows-life rule allowed w h board B .1 (steps-agree (rows-step (nextUnder rule) w h board board (B .size .some-row) (record {
+          chosen = λ r l. and-left (agreed r) (keeps r) (m r l);
+          final = T .final;
+        })));
+        keeps = keeps-of (B .bytes) g (B .size .some-column) (λ r l. and-right (agreed r) (keeps r) (m r l));
+      }
 
-    -- ---- what the rows are worth
-    next-length : (k r : ℕ) → length (nextRows w h board r k) ≡ k
-    unfolding nextRows
-    next-length zero r = refl
-    next-length (suc k) r = ap suc (next-length k (suc r))
-
-    rows-total : (k r : ℕ) → r + k ≡ h → score w h g board ≡ score w r g board + total (kind rule w h g) (nextRows w h board r k)
-    unfolding nextRows
-    rows-total zero r l =
-        let e : h ≡ r = omega arith in
-        omega (arith, total-none (kind rule w h g), ap (λ (x : ℕ). score w x g board) e)
-    rows-total (suc k) r l =
-        let c = row (suc r) in
-        let cs = nextRows w h board (suc r) k in
-        let e : h - suc (length cs) ≡ r = omega (arith, next-length k (suc r)) in
-        let m : total (kind rule w h g) (c ∷ cs) ≡ rowWorth w g (r * w) c + total (kind rule w h g) cs =
-        total-more (kind rule w h g) c cs ∙ ap (λ (x : ℕ). rowWorth w g (x * w) c + total (kind rule w h g) cs) e in
-        omega (arith, rows-total k (suc r) (omega arith), score-more B g r (omega arith), m)
-
-    pub total-score : score w h g board ≡ total (kind rule w h g) (allRows w h board)
-    total-score = omega (arith, rows-total h 0 (omega arith), score-none w g board)
+  -- and its score is what its rows are worth
+  pub total-score : score w h g board ≡ total (kind rule w h g) (allRows w h board)
+  total-score =
+      rows-worth (rules mostLive (agree (nextUnder rule) w) w (λ k. (h - suc k) * w) g) h (rowOf w h board) (λ r. score w r g board)
+      (λ r l. rw (rows-over l) (score-more (B .bytes) g r l)) (score-none w g board)

@@ -120,7 +120,7 @@ module _ (jobKind : Kind) {rule : Rule} {w h : ℕ} (z : Frame rule w h) (g : Li
       let e : h - suc (h - suc r) ≡ r = omega arith in
       let m : rowWorth w g ((h - suc (h - suc r)) * w) (readRow w w r wanted) ≡ rowWorth w g (r * w) (rowOf w h wanted (suc r)) =
       ap₂ (λ (x c : ℕ). rowWorth w g (x * w) c) e (row-same wanted (suc r) l) in
-      worth-more (setupOf jobKind rule w h g) (readRow w w) wanted r ∙ omega (arith, m, worth-score B r (omega arith), score-more B g r l)
+      worth-more (setupOf jobKind rule w h g) (readRow w w) wanted r ∙ omega (arith, m, worth-score B r (omega arith), score-more (B .bytes) g r l)
 
   carried-score : (wanted : List ℕ) (k x : ℕ) → (0 < k → Optimal rule w h g wanted) → k ≤ h → x ≡ worthSoFar (setupOf jobKind rule w h g) (readRow w w) wanted k → x ≡ score w k g wanted
   carried-score wanted zero x o l e = e ∙ worth-none (setupOf jobKind rule w h g) (readRow w w) wanted ∙ sym (score-none w g wanted)

@@ -11,7 +11,7 @@ use lib.IntN.{ℤ, pos}
 use lib.ListN.{getD}
 use lib.Pow.{pow-pos}
 use lib.Seq.{ext-getD}
-use Rattle.board.specs.Boards.{among, Board}
+use Rattle.board.specs.Boards.{among, Bytes}
 use Rattle.board.specs.Sums.{total}
 use Rattle.board.proofs.Sums.{total-none, total-same, total-add}
 use Rattle.board.proofs.Tests.{among-yes, among-past}
@@ -38,7 +38,7 @@ module _ (w h : ℕ) (cells : List ℕ) where
   unfolding rowOf
   row-past r l = rw (among-past h r l)
 
-module _ {w h : ℕ} {board : List ℕ} (b : Board w h board) where
+module _ {w h : ℕ} {board : List ℕ} (b : Bytes 1 w h board) where
   pub row-lt : (r : ℕ) → rowOf w h board r < 2 ^ w
   unfolding rowOf
   row-lt r = go (among h r)
@@ -55,23 +55,19 @@ module _ {w h : ℕ} {board : List ℕ} (b : Board w h board) where
       ap (λ (f : ℤ → ℕ). f (pos (suc k))) (row-cells b (suc r)) in
       rw (add-one k) (rw (among-yes w (suc k) (omega arith) q) at e ∙ on-board w h board r k p q)
 
-  -- ---- worth
-  abbrev earns : List ℕ → ℕ → ℕ
-  earns g p = cellWorth (getD g p 0) (getD board p 0)
-
-  worth-row : (g : List ℕ) (r : ℕ) → r < h → rowWorth w g (r * w) (rowOf w h board (suc r)) ≡ total (λ k. earns g (r * w + k)) w
-  unfolding rowWorth
-  worth-row g r l =
-      total-same (λ k. cellWorth (getD g (r * w + k) 0) (digitIn w (rowOf w h board (suc r)) (k + 1))) (λ k. earns g (r * w + k)) w
-      (λ k q. ap (cellWorth (getD g (r * w + k) 0)) (row-digit r k l q))
-
-  -- one row more
-  pub score-more : (g : List ℕ) (r : ℕ) → r < h → score w (suc r) g board ≡ score w r g board + rowWorth w g (r * w) (rowOf w h board (suc r))
-  unfolding score
-  score-more g r l =
+  -- ---- what cells count, each by its place and its state: one row more
+  count-more : (earns : ℕ → ℕ → ℕ) (r : ℕ) → r < h
+      → total (λ p. earns p (getD board p 0)) (w * suc r) ≡ total (λ p. earns p (getD board p 0)) (w * r) + total (λ k. earns (r * w + k) (digitIn w (rowOf w h board (suc r)) (k + 1))) w
+  count-more earns r l =
       let e : w * suc r ≡ r * w + w = omega arith in
       let f : w * r ≡ r * w = mul-comm w r in
-      rw (e, f, worth-row g r l) (total-add (earns g) (r * w) w)
+      let m = total-same (λ k. earns (r * w + k) (digitIn w (rowOf w h board (suc r)) (k + 1))) (λ k. earns (r * w + k) (getD board (r * w + k) 0)) w
+      (λ k q. ap (earns (r * w + k)) (row-digit r k l q)) in
+      rw (e, f, m) (total-add (λ p. earns p (getD board p 0)) (r * w) w)
+
+  pub score-more : (g : List ℕ) (r : ℕ) → r < h → score w (suc r) g board ≡ score w r g board + rowWorth w g (r * w) (rowOf w h board (suc r))
+  unfolding score rowWorth
+  score-more g r l = count-more (λ p x. cellWorth (getD g p 0) x) r l
 
 pub score-none : (w : ℕ) (g board : List ℕ) → score w 0 g board ≡ 0
 unfolding score
@@ -95,10 +91,10 @@ place w h p wide l = record {
   is = sym (div-add-mod' p w);
 }
 
-pub same-rows : {w h : ℕ} {board other : List ℕ} → Board w h board → Board w h other
+pub same-rows : {w h : ℕ} {board other : List ℕ} → 0 < w → Bytes 1 w h board → Bytes 1 w h other
     → ((r : ℕ) → r < h → rowOf w h board (suc r) ≡ rowOf w h other (suc r)) → board ≡ other
-same-rows {w} {h} {board} {other} b o e =
-    ext-getD 0 board other (b .bytes .long ∙ sym (o .bytes .long)) (λ p l. at p (place w h p (b .size .some-column) (rw (b .bytes .long) at l)))
+same-rows {w} {h} {board} {other} wide b o e =
+    ext-getD 0 board other (b .long ∙ sym (o .long)) (λ p l. at p (place w h p wide (rw (b .long) at l)))
   where
     at : (p : ℕ) → Place w h p → getD board p 0 ≡ getD other p 0
     at p q =

@@ -15,32 +15,34 @@ use Rattle.elimination.specs.Order.{isWorse, isTied}
 use Rattle.elimination.specs.Candidates.{NoBetterRows}
 use Rattle.elimination.specs.Kind.{entry, rightEntry, rightRows, worthOf}
 use Rattle.elimination.specs.Endings.{total, Solved, noEnding, anEnding}
+use Rattle.elimination.specs.Boards.{BoardSolved, theBest, noBoard}
 use Rattle.elimination.proofs.Kind.{entry-more, right-entry-last, right-entry-more, choose-ext}
 use Rattle.elimination.proofs.Sums.{tied-equal}
 use Rattle.elimination.proofs.Endings.{total-none, total-more, elimination-solves, ending-counts}
+use Rattle.elimination.proofs.Boards.{best-is-chosen}
+use Rattle.life.specs.Rows.{rowOf}
 use Rattle.solver.specs.Grid.{Solution, BestBy, score, population}
 use Rattle.score_table.specs.Rows.{cellWorth, rowWorth}
 use Rattle.score_table.specs.ScoreTable.{absent, mostLive, readsOf}
 use Rattle.solver.specs.Theorems as Theorems
-use Rattle.solver.specs.Theorems.{allRows, EndingsAreSolutions, BestOrNone, best, none, ChoiceIsOptimal, rowsWorth, Greatest, greatest, RightGridLayer, EntriesRight, liveGivens, GivensApart, SameBest}
+use Rattle.solver.specs.Theorems.{EndingsAreSolutions, BestOrNone, best, none, ChoiceIsOptimal, rowsWorth, Greatest, greatest, RightGridLayer, EntriesRight, liveGivens, GivensApart, SameBest}
 use Rattle.score_table.proofs.Marks.{MarkIs, isDead, isLive, isFree, mark-is, worth-dead, worth-live, worth-free}
 use Rattle.job.proofs.Fits.{Frame}
 use Rattle.solver.proofs.Endings.{kind, kind-laws, solution-ends, ends-solution}
-use Rattle.solver.proofs.Optimum.{boardOf, is-rows, is-score, optimal}
+use Rattle.solver.proofs.Optimum.{grid-boards, optimal-of}
 
 pub endings-are-solutions : EndingsAreSolutions
 endings-are-solutions rule allowed w h g board b = (ends-solution allowed b g, solution-ends allowed b g)
 
 pub choice-is-optimal : ChoiceIsOptimal
-choice-is-optimal rule allowed w h g z = go (elimination-solves (kind rule w h g) h (kind-laws rule w h g z) h 0 0 (omega arith))
+choice-is-optimal rule allowed w h g z = go (best-is-chosen (kind-laws rule w h g z) (grid-boards F g))
   where
-    go : Solved (kind rule w h g) h 0 0 (rightEntry (kind rule w h g) h 0 0) (rightRows (kind rule w h g) h 0 0) → BestOrNone rule w h g
-    go (noEnding n p q) = none (λ b S. n (allRows w h b) (solution-ends allowed (S .grid) g S)) p
-    go (anEnding T) =
-        let F : Frame rule w h = record { size = z; allowed = allowed } in
-        let x = rightEntry (kind rule w h g) h 0 0 in
-        let cs = rightRows (kind rule w h g) h 0 0 in
-        best (boardOf w h cs) (optimal F g x cs T) (is-rows F g x cs T) (is-score F g x cs T)
+    F : Frame rule w h
+    F = record { size = z; allowed = allowed }
+
+    go : BoardSolved (kind rule w h g) h (rowOf w h) (Solution rule w h g) (score w h g) → BestOrNone rule w h g
+    go (theBest b B rows worth) = best b (optimal-of F g B) rows (tied-equal false worth)
+    go (noBoard n p) = none n p
 
 -- ---- entries
 worth-total : (rule : Rule) (w h : ℕ) (g cs : List ℕ) → rowsWorth w h g cs ≡ total (kind rule w h g) cs

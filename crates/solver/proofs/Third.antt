@@ -21,8 +21,8 @@ use Rattle.solver.specs.Working.{lentCheck}
 use Rattle.solver.specs.Units.{unitOf, grid}
 use Rattle.solver.specs.Demand.{gridKind, ThirdDemand}
 use Rattle.solver.specs.Theorems.{allRows, RowsToBoard}
-use Rattle.solver.proofs.Endings.{kind-laws, solution-ends}
-use Rattle.solver.proofs.Optimum.{rows-stand, boardOf, into-same, is-total, optimal}
+use Rattle.solver.proofs.Endings.{kind-laws}
+use Rattle.solver.proofs.Optimum.{rows-stand, boardOf, grid-boards, grid-into, is-total, optimal}
 use Rattle.solver.proofs.CheckLaws.{checks-sound, lent-passed}
 use Rattle.solver.proofs.Machine.{numbered, unit-same}
 use Rattle.solver.proofs.Progress.{progress}
@@ -47,9 +47,9 @@ module _ (kind : Kind) {rule : Rule} {w h : ℕ} (z : Frame rule w h) (g : List 
     all-rows = mul-comm h w;
     writer = rows-stand w;
     boardOf = boardOf w h;
-    into = λ rows E β size. into-same z g rows E β size;
-    best = λ x rows T. (optimal z g x rows T, is-total z g x rows T);
-    none = λ n b S. n (allRows w h b) (solution-ends (z .allowed) (S .grid) g S);
+    into = grid-into z g;
+    best = λ x rows T. (optimal z g T, is-total z g T);
+    none = λ n b S. n (allRows w h b) (grid-boards z g .ends b S);
     progress = λ wanted before now O f o F E C. progress kind z g wanted before now O f o F E C;
   }
 

@@ -7,7 +7,7 @@ use mathlib.Core.Path.{_≡_}
 use mathlib.Core.Bool.{cond}
 use mathlib.Core.Logic.{_↔_}
 use mathlib.Core.List.{List, [], _∷_}
-use Prim.Native.Nat.{ℕ, zero, suc, _+_, _*_, _-_, _^_, _≤_, _<_}
+use Prim.Native.Nat.{ℕ, suc, _+_, _*_, _-_, _^_, _≤_, _<_}
 use lib.Dec.{eqb}
 use lib.ListN.{length, getD}
 use Rattle.board.specs.Answers.{Answer, passed, refuses}
@@ -16,6 +16,7 @@ use Rattle.board.specs.Sums.{total}
 use Rattle.edges.specs.Edges.{edgeCheck}
 use Rattle.elimination.specs.Kind.{entry, rightEntry, rightRows}
 use Rattle.elimination.specs.Endings.{Ending}
+use Rattle.elimination.specs.Boards.{rowsFrom}
 use Rattle.rule.specs.Rule.{Allowed, nextUnder}
 use Rattle.rule.specs.declared.Rule.{Rule}
 use Rattle.life.specs.Rows.{rowOf}
@@ -36,14 +37,9 @@ use Rattle.solver.specs.Demand.{gridKind}
 use Rattle.solver.specs.Inner.{lentState}
 
 -- ---- boards and endings
--- the k rows of a board that follow row r, as numbers
-unfoldable pub nextRows : ℕ → ℕ → List ℕ → ℕ → ℕ → List ℕ
-nextRows w h board r zero = []
-nextRows w h board r (suc k) = rowOf w h board (suc r) ∷ nextRows w h board (suc r) k
-
--- rows 1 to h of a board
+-- rows 1 to h of a board, as numbers
 abbrev pub allRows : ℕ → ℕ → List ℕ → List ℕ
-allRows w h board = nextRows w h board 0 h
+allRows w h board = rowsFrom (rowOf w h board) 0 h
 
 -- the k rows cs may stand below a over b and end the board there: every three neighbouring rows agree, and each keeps its givens
 abbrev pub GridEnding : Rule → ℕ → ℕ → List ℕ → ℕ → ℕ → ℕ → List ℕ → Type 0

@@ -42,7 +42,7 @@ returns-2 : tie.Need-returns-2
 unfolding judgeRule
 returns-2 c =
     let t = c .before .before .before in
-    rw (checked t) (c .first-change .ensures ∙ judged-same _ (nextUnder _) (c .before .before .of .ensures .entry) (board t))
+    rw (checked t) (c .first-change .ensures ∙ judged-same _ (nextUnder _) (c .before .before .of .ensures .entry) (board t .bytes))
 
 pub judge-spec : {M : Type 1} → statement M
 judge-spec =

@@ -67,7 +67,7 @@ returns-3 c =
     let d = c .before .before .before .before .before .before in
     let t = d .before in (
       simp (checked t, eq-eqb _ _ (d .if1 .left)),
-      simp (checked t, eq-eqb _ _ (d .if1 .left)) (c .before .before .write-step .ensures ∙ stepped-same _ (nextUnder _) (c .before .before .before .before .before .of .ensures .entry) (board t)),
+      simp (checked t, eq-eqb _ _ (d .if1 .left)) (c .before .before .write-step .ensures ∙ stepped-same _ (nextUnder _) (c .before .before .before .before .before .of .ensures .entry) (board t .bytes)),
     )
 
 pub step-spec : {M : Type 1} → statement M
