@@ -17,6 +17,7 @@ use Rattle.life.specs.Rows.{agree}
 use Rattle.score_table.specs.Rows.{rowWorth, rowKept, rowGain}
 use Rattle.score_table.specs.ScoreTable.{absent, kindFor}
 use Rattle.score_table.specs.declared.Want.{Want}
+use Rattle.score_table.proofs.WholeRows.{plain, plain-is}
 use Rattle.column_elimination.specs.Columns.{larger, greatest, keepIf, scored, start, entryIn, GreatestIsEntry}
 use Rattle.column_elimination.proofs.Greatest.{larger-none}
 
@@ -36,7 +37,7 @@ entry-count (chosen c v) = let e : suc v - 1 ≡ v = omega arith in rw (ne-eqb (
 
 module _ (want : Want) (next : ℕ → ℕ) (w h : ℕ) (givens : List ℕ) (k a b : ℕ) (read : ℕ → ℕ) (most : want .least ≡ false) where
   abbrev G : Kind ℕ
-  G = kindFor want next w h givens
+  G = kindFor (plain want) next w h givens
 
   abbrev at : ℕ
   at = (h - suc k) * w
@@ -91,4 +92,5 @@ module _ (want : Want) (next : ℕ → ℕ) (w h : ℕ) (givens : List ℕ) (k a
       ∙ sym (entry-more G k a b read ∙ ap (worthOf absent) (choose-scan G k a b read))
 
 pub greatest-is-entry : GreatestIsEntry
-greatest-is-entry want next w h givens k a b read most = entry-greatest want next w h givens k a b read most
+greatest-is-entry want next w h givens k a b read most digits =
+    entry-greatest want next w h givens k a b read most ∙ ap (λ (u : Want). entry (kindFor u next w h givens) (suc k) a b read) (plain-is want digits)

@@ -1,7 +1,7 @@
 -- A layer that is filled eight rows b at a time: what a column and the last two leave, what eight rows more add to the layer, and that the whole is its
 -- entries one after the other.
 -- Assumes nothing.
-use mathlib.Core.Path.{_≡_, refl, _∙_, ap, fun-ext}
+use mathlib.Core.Path.{_≡_, refl, _∙_, sym, ap, subst, fun-ext}
 use mathlib.Core.Bool.{true, false, not, _&&_}
 use mathlib.Core.List.{List}
 use mathlib.Core.Logic.{inl, inr, ⊎-elim}
@@ -21,8 +21,10 @@ use Rattle.elimination.specs.Table.{fillEntries, LayerFilled, Apart}
 use Rattle.elimination.proofs.Table.{layer-is-entries}
 use Rattle.score_table.specs.Rows.{rowGain}
 use Rattle.score_table.specs.ScoreTable.{absent, kindFor}
+use Rattle.score_table.specs.Inner.{EntriesRead}
 use Rattle.score_table.specs.Calls.{fillFits, fillWrites}
 use Rattle.score_table.specs.declared.Want.{Want}
+use Rattle.score_table.proofs.WholeRows.{plain, plain-is}
 use Rattle.score_table.proofs.Calls.{fits-read, fill-done}
 use Rattle.column_elimination.specs.Columns.{held, start, entryIn, entryBy, crossed, columnMask, lastMask, ended, front, loaded, maskOf, patternKept, Keeps, Holds, Turned, Ended}
 use Rattle.column_elimination.specs.Written.{Wrote, Spread}
@@ -148,7 +150,7 @@ pub layer-done : (want : Want) (next : ℕ → ℕ) (w h k source target : ℕ) 
     → new ≡ fillEntries (kindFor want next w h givens) k source target 0 (4 ^ w) table
 layer-done want next w h zero source target gains givens table L apart same S = absurd (omega (arith, L .suits .above))
 layer-done want next w h (suc k) source target gains givens table L apart {new} same S =
-    let G = kindFor want next w h givens in
+    let G = kindFor (plain want) next w h givens in
     let q = four-two w in
     let F : LayerFilled G (suc k) source target table new =
     record {
@@ -160,12 +162,13 @@ layer-done want next w h (suc k) source target gains givens table L apart {new} 
           let lb : b < 2 ^ w = mod-lt j (pow-pos w) in
           let d : a * 2 ^ w + b ≡ j = div-add-mod' j (2 ^ w) in
           let p : target + a * 2 ^ w + b ≡ target + j = omega arith in
-          let x = S .inside a b la lb ∙ entry-by want next w h givens k a b gains table source (L .suits .greatest) la lb same in
+          let x = S .inside a b la lb ∙ entry-by (plain want) next w h givens k a b gains table source (L .suits .greatest) refl la lb same in
           rw p at x;
       before = S .before;
       after = S .after;
     } in
     rw q (layer-is-entries G (suc k) source target table new apart (omega (arith, L .writes, q)) F)
+    ∙ ap (λ (u : Want). fillEntries (kindFor u next w h givens) (suc k) source target 0 (4 ^ w) table) (plain-is want (L .suits .digits))
 
 -- ---- which layers are filled at once, as the code tests it
 module _ (want : Want) (w k source target count : ℕ) where
@@ -174,23 +177,28 @@ module _ (want : Want) (w k source target count : ℕ) where
   once-least e = rw e
 
   module _ (e : want .least ≡ false) where
-    pub once-narrow : w < narrowest → false ≡ atOnce want w k source target count
+    pub once-halves : want .halves ≡ true → false ≡ atOnce want w k source target count
     unfolding atOnce
-    once-narrow l = rw (e, lt-leb narrowest w l)
+    once-halves f = rw (e, f)
 
-    module _ (l : narrowest ≤ w) where
-      pub once-last : k ≡ 0 → false ≡ atOnce want w k source target count
+    module _ (f : want .halves ≡ false) where
+      pub once-narrow : w < narrowest → false ≡ atOnce want w k source target count
       unfolding atOnce
-      once-last z = rw (e, le-leb narrowest w l, eq-eqb k 0 z)
+      once-narrow l = rw (e, f, lt-leb narrowest w l)
 
-      module _ (z : k ≡ 0 → ⊥) where
-        pub once-part : (count ≡ 4 ^ w → ⊥) → false ≡ atOnce want w k source target count
+      module _ (l : narrowest ≤ w) where
+        pub once-last : k ≡ 0 → false ≡ atOnce want w k source target count
         unfolding atOnce
-        once-part n = rw (e, le-leb narrowest w l, ne-eqb k 0 z, ne-eqb count (4 ^ w) n)
+        once-last z = rw (e, f, le-leb narrowest w l, eq-eqb k 0 z)
 
-        pub once-apart : count ≡ 4 ^ w → areApart source target (4 ^ w) ≡ atOnce want w k source target count
-        unfolding atOnce
-        once-apart c = rw (e, le-leb narrowest w l, ne-eqb k 0 z, eq-eqb count (4 ^ w) c)
+        module _ (z : k ≡ 0 → ⊥) where
+          pub once-part : (count ≡ 4 ^ w → ⊥) → false ≡ atOnce want w k source target count
+          unfolding atOnce
+          once-part n = rw (e, f, le-leb narrowest w l, ne-eqb k 0 z, ne-eqb count (4 ^ w) n)
+
+          pub once-apart : count ≡ 4 ^ w → areApart source target (4 ^ w) ≡ atOnce want w k source target count
+          unfolding atOnce
+          once-apart c = rw (e, f, le-leb narrowest w l, ne-eqb k 0 z, eq-eqb count (4 ^ w) c)
 
 apart-are : (source target q : ℕ) → areApart source target q ≡ true → Apart q source target
 apart-are source target q e =
@@ -206,18 +214,21 @@ pub once-suits : (want : Want) (w k source target count : ℕ) → atOnce want w
 unfolding atOnce
 once-suits want w k source target count e =
     let a = not (want .least) in
+    let f = not (want .halves) in
     let b = leb narrowest w in
     let c = not (eqb k 0) in
     let d = eqb count (4 ^ w) in
     let x = areApart source target (4 ^ w) in
-    let p3 = and-left (a && b && c && d) x e in
-    let p2 = and-left (a && b && c) d p3 in
-    let p1 = and-left (a && b) c p2 in record {
-      greatest = not-true (want .least) (and-left a b p1);
-      wide = leb-true narrowest w (and-right a b p1);
-      above = some k (eqb-false k 0 (not-true (eqb k 0) (and-right (a && b) c p2)));
-      whole = eqb-true count (4 ^ w) (and-right (a && b && c) d p3);
-      apart = apart-are source target (4 ^ w) (and-right (a && b && c && d) x e);
+    let p4 = and-left (a && f && b && c && d) x e in
+    let p3 = and-left (a && f && b && c) d p4 in
+    let p2 = and-left (a && f && b) c p3 in
+    let p1 = and-left (a && f) b p2 in record {
+      greatest = not-true (want .least) (and-left a f p1);
+      digits = not-true (want .halves) (and-right a f p1);
+      wide = leb-true narrowest w (and-right (a && f) b p2);
+      above = some k (eqb-false k 0 (not-true (eqb k 0) (and-right (a && f && b) c p3)));
+      whole = eqb-true count (4 ^ w) (and-right (a && f && b && c) d p4);
+      apart = apart-are source target (4 ^ w) (and-right (a && f && b && c && d) x e);
     }
   where
     some : (n : ℕ) → (n ≡ 0 → ⊥) → 0 < n
@@ -227,22 +238,26 @@ once-suits want w k source target count e =
 -- entries that are there and suit are a layer that can be filled at once
 module _ (want : Want) (w h k source target from count : ℕ) (givens table : List ℕ) (fits : fillFits want w h k source target from count givens (length table) ≡ true)
     (S : Suits want w k source target count) where
+  -- what they are lent, by the digits of a row's number
+  read : EntriesRead (plain want) w h k source from count givens table × (want .limit + w < absent) × (target + 4 ^ w ≤ length table)
+  read =
+      fits-read (plain want) w h givens k source target from count table
+      (subst (λ (u : Want). fillFits u w h k source target from count givens (length table) ≡ true) (sym (plain-is want (S .digits))) fits)
+
   pub layer-lent : LayerLent want w h k source target givens table
-  layer-lent =
-      let R = fits-read want w h givens k source target from count table fits in record {
-        suits = record { greatest = S .greatest; wide = S .wide; above = S .above; whole = refl; apart = S .apart };
-        memory = R .0 .memory;
-        after = R .0 .after;
-        small = R .1;
-        reads = R .0 .layer (λ z. omega (arith, S .above));
-        writes = R .2;
-      }
+  layer-lent = record {
+    suits = record { greatest = S .greatest; digits = S .digits; wide = S .wide; above = S .above; whole = refl; apart = S .apart };
+    memory = read .0 .memory;
+    after = read .0 .after;
+    small = read .1;
+    reads = read .0 .layer (λ z. omega (arith, S .above));
+    writes = read .2;
+  }
 
   pub layer-written : (next : ℕ → ℕ) {new : List ℕ} → new ≡ fillEntries (kindFor want next w h givens) k source target 0 (4 ^ w) table
       → new ≡ fillWrites want next w h k source target from count givens table
   layer-written next e =
-      let R = fits-read want w h givens k source target from count table fits in
-      let f : from ≡ 0 = omega (arith, R .0 .inside, S .whole) in
+      let f : from ≡ 0 = omega (arith, read .0 .inside, S .whole) in
       let c : count ≡ 4 ^ w = S .whole in
       let G = kindFor want next w h givens in
       let same : fillEntries G k source target 0 (4 ^ w) table ≡ fillEntries G k source target from count table = rw (f, c) in

@@ -19,15 +19,16 @@ narrowest = 4
 abbrev pub areApart : ℕ → ℕ → ℕ → Bool
 areApart source target q = cond (ltb source target) (leb q (target - source)) (leb q (source - target))
 
--- so many entries are a whole layer that is filled at once: one above the last, wide enough, apart from the layer that it reads, and the greatest sums
--- are wanted
+-- so many entries are a whole layer that is filled at once: one above the last, wide enough, apart from the layer that it reads, the greatest sums
+-- are wanted, and a row's cells are its number's digits
 unfoldable pub atOnce : Want → ℕ → ℕ → ℕ → ℕ → ℕ → Bool
 atOnce want w k source target count =
-    not (want .least) && leb narrowest w && not (eqb k 0) && eqb count (4 ^ w) && areApart source target (4 ^ w)
+    not (want .least) && not (want .halves) && leb narrowest w && not (eqb k 0) && eqb count (4 ^ w) && areApart source target (4 ^ w)
 
 -- what that says
 pub record Suits (want : Want) (w k source target count : ℕ) : Type 0 where
   pub greatest : want .least ≡ false
+  pub digits : want .halves ≡ false
   pub wide : narrowest ≤ w
   pub above : 0 < k
   pub whole : count ≡ 4 ^ w
@@ -36,7 +37,7 @@ pub record Suits (want : Want) (w k source target count : ℕ) : Type 0 where
 -- what the filling of such a layer is lent
 pub record LayerLent (want : Want) (w h k source target : ℕ) (givens table : List ℕ) : Type 0 where
   pub suits : Suits want w k source target (4 ^ w)
-  pub memory : Memory w h givens
+  pub memory : Memory false w h givens
   pub after : k < h
   pub small : want .limit + w < absent
   pub reads : source + 4 ^ w ≤ length table

@@ -6,6 +6,7 @@ use columns::VECTOR;
 use score_table::NONE;
 use score_table::Want;
 ghost use mathlib.Core.Path.{_≡_};
+ghost use mathlib.Core.Bool.{false};
 ghost use Prim.Native.Nat.{ℕ, _+_, _*_, _<_, _≤_, _^_};
 ghost use lib.ListN.{length, getD};
 ghost use Rattle.board.specs.Boards.{maxWidth};
@@ -67,7 +68,7 @@ pub fn fill(
 
 // What each row earns as the one with r rows above it and 1; 0 where it doesn't keep the givens.
 fn gains(w: usize, n: usize, h: usize, r: usize, givens: &[u8], worth: &mut [u16; ROWS])
-    requires { ⌜ Memory w h (now givens) × (n ≡ 2 ^ w) × (r < h) ⌝ }
+    requires { ⌜ Memory false w h (now givens) × (n ≡ 2 ^ w) × (r < h) ⌝ }
     ensures { λ _. ⌜ Wrote 0 (2 ^ w) (rowGain w (now (givens .entry)) (r * w)) (now (worth .entry)) (now (worth .exit)) ⌝ }
 {
     for c in 0..n {

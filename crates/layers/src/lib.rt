@@ -4,6 +4,7 @@ mod layer;
 
 use score_table::Want;
 ghost use mathlib.Core.Path.{_≡_};
+ghost use mathlib.Core.Bool.{false};
 ghost use Prim.Native.Nat.{_≤_};
 ghost use Rattle.board.specs.Boards.{maxWidth};
 ghost use Rattle.rule.specs.Rule.{entryOf};
@@ -53,8 +54,8 @@ pub fn fill(
     );
 }
 
-// Whether so many entries are a whole layer that is filled at once: one above the last, apart from the layer that it reads, and the greatest sums
-// are wanted.
+// Whether so many entries are a whole layer that is filled at once: one above the last, apart from the layer that it reads, the greatest sums are
+// wanted, and a row's cells are its number's digits.
 fn by_columns(
     want: Want,
     w: usize,
@@ -63,10 +64,13 @@ fn by_columns(
     target: usize,
     count: usize,
 ) -> bool
-    requires { ⌜ w ≤ maxWidth ⌝ }
+    requires { ⌜ (want .halves ≡ false → w ≤ maxWidth) ⌝ }
     ensures { λ r. ⌜ r ≡ atOnce want w after source target count ⌝ }
 {
     if want.least {
+        return false;
+    }
+    if want.halves {
         return false;
     }
     if w < NARROWEST {

@@ -18,6 +18,9 @@ pub enum Group {
     Narrow,
     Parts,
     Refused,
+    // Rows held as their left halves, widths 2 to 8, by rules alone.
+    Halves,
+    HalvesRefused,
 }
 
 pub struct Call {
@@ -32,6 +35,8 @@ pub struct Call {
     // How many givens and entries are lent.
     pub cells: usize,
     pub entries: usize,
+    // It is compared with the plain search, and not with the filling entry by entry.
+    pub plain: bool,
 }
 
 pub fn patterns(group: Group, seed: usize) -> [u8; 512] {
@@ -39,6 +44,7 @@ pub fn patterns(group: Group, seed: usize) -> [u8; 512] {
         Group::Conway => rule::table::conway(),
         Group::Rules => memory::rules_of(seed),
         Group::Bytes => memory::bytes_of(seed),
+        Group::Halves => rule::table::of(memory::halves_rule(seed)),
         _ => match seed % 3 {
             0 => rule::table::conway(),
             1 => memory::rules_of(seed),
@@ -61,6 +67,8 @@ pub fn of_group(group: Group, seed: usize) -> Call {
         Group::Narrow => whole(x % 3, any % 20, seed),
         Group::Parts => part(whole(w, either, seed), q, x),
         Group::Refused => refused(call, q, x),
+        Group::Halves => halves(1 + seed % 4, seed),
+        Group::HalvesRefused => unfit(halves(1 + seed % 4, seed), x),
         _ => call,
     }
 }
@@ -84,11 +92,12 @@ pub fn whole(w: usize, apart: usize, seed: usize) -> Call {
         count: q,
         cells: cells(w, h),
         entries: num::wrapping_add_usize(end, random::below(3, seed, 5)),
+        plain: false,
     }
 }
 
 // The cells of a grid whose width and height are below 2^32.
-fn cells(w: usize, h: usize) -> usize {
+pub fn cells(w: usize, h: usize) -> usize {
     w % 4294967296 * (h % 4294967296)
 }
 
@@ -147,9 +156,48 @@ fn wanting(call: Call, x: usize) -> Call {
             6 => 65534 - call.w % 16, // the greatest that is taken
             _ => 600,
         },
+        halves: call.want.halves,
     };
     let mut c = call;
     c.want = want;
+    c
+}
+
+// A whole layer of rows that are held as their left halves, of so many cells, by any want; of some calls the last layer.
+pub fn halves(half: usize, seed: usize) -> Call {
+    let x = seed / 5;
+    let apart = num::wrapping_add_usize(board::table_size(half, 1), x % 3);
+    let w = num::wrapping_add_usize(half, half);
+    let mut c = whole(half, apart, seed);
+    c.w = w;
+    c.cells = cells(w, c.h);
+    c.want.halves = true;
+    c.plain = true;
+    if x % 4 == 0 {
+        c.after = 0;
+    }
+    wanting(c, x)
+}
+
+// One that has to write nothing: an odd width, one past 20, a layer of the whole width, or a number that could be taken for none.
+fn unfit(call: Call, x: usize) -> Call {
+    let odd = num::wrapping_add_usize(call.w, 1);
+    let past = 65535 - call.w % 16;
+    let mut c = call;
+    c.plain = false;
+    match x % 4 {
+        0 => {
+            c.w = odd;
+            c.cells = cells(odd, call.h);
+        }
+        1 => {
+            c.w = 22;
+            c.h = 30;
+            c.cells = cells(22, 30);
+        }
+        2 => c.count = board::table_size(call.w, 1),
+        _ => c.want.limit = past,
+    }
     c
 }
 

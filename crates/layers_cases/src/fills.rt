@@ -2,8 +2,12 @@
 use crate::calls;
 use crate::calls::Call;
 use crate::calls::Group;
+use crate::halves;
+use crate::halves::Found;
 use crate::memory;
 use crate::memory::Bytes;
+use crate::random;
+use score_table::Picked;
 use std::num;
 ghost use Prim.Native.Nat.{_≤_};
 
@@ -94,8 +98,17 @@ fn fill_both(
     memory::spoil(limit, seed, a);
     memory::spoil(limit, seed, b);
     by_layers(next, call, givens, a);
-    by_entries(next, call, call.from, call.count, givens, b);
+    otherwise(next, call, seed, givens, b);
     compared(limit, seed, a, b, t)
+}
+
+// By the plain search where the call says so, and else entry by entry.
+fn otherwise(next: &[u8; 512], call: Call, seed: usize, givens: &[u8], table: &mut [u16]) {
+    if call.plain {
+        halves::fill(memory::halves_rule(seed), call, givens, table);
+        return;
+    }
+    by_entries(next, call, call.from, call.count, givens, table);
 }
 
 fn by_layers(next: &[u8; 512], call: Call, givens: &[u8], table: &mut [u16]) {
@@ -215,5 +228,100 @@ fn write_place(
         by_entries(next, call, entry, 1, givens, table);
     } else {
         memory::put(table, k, memory::leftover(call.want.limit, seed, k));
+    }
+}
+
+// Rows chosen by halves over leftovers, each by the plain search too.
+pub fn try_rows(name: &[u8], calls: usize, table: &mut [u16]) {
+    let mut t = nothing();
+    for k in 0..calls {
+        t = try_row(calls::halves(1 + k % 4, k), k, table, t);
+    }
+    print_rows(name, t);
+}
+
+fn print_rows(name: &[u8], t: Tally) {
+    report::line(name, t.calls);
+    report::line(b"  rows found: ", t.changed);
+    report::line(b"  differences: ", t.wrong);
+}
+
+fn try_row(call: Call, seed: usize, table: &mut [u16], t: Tally) -> Tally {
+    let next = calls::patterns(Group::Halves, seed);
+    let mut givens = [0u8; 704];
+    memory::write_bytes(&mut givens, Bytes::Givens, seed);
+    lend_row(&next, call, seed, &givens, table, t)
+}
+
+fn lend_row(
+    next: &[u8; 512],
+    call: Call,
+    seed: usize,
+    givens: &[u8],
+    table: &mut [u16],
+    t: Tally,
+) -> Tally {
+    let g = least(call.cells, givens.len());
+    let n = least(call.entries, table.len());
+    spoil_and_choose(next, call, seed, &givens[..g], &mut table[..n], t)
+}
+
+fn spoil_and_choose(
+    next: &[u8; 512],
+    call: Call,
+    seed: usize,
+    givens: &[u8],
+    table: &mut [u16],
+    t: Tally,
+) -> Tally {
+    memory::spoil(call.want.limit, seed, table);
+    choose_both(next, call, seed, givens, table, t)
+}
+
+fn choose_both(
+    next: &[u8; 512],
+    call: Call,
+    seed: usize,
+    givens: &[u8],
+    table: &[u16],
+    t: Tally,
+) -> Tally {
+    let n = halves::codes(call.w);
+    let r = num::wrapping_sub_usize(call.h, num::wrapping_add_usize(call.after, 1));
+    let above = random::below(n, seed, 20);
+    let last = random::below(n, seed, 21);
+    let want = call.want;
+    let picked = score_table::choose_row(
+        next,
+        want,
+        call.w,
+        call.h,
+        r,
+        call.source,
+        above,
+        last,
+        givens,
+        table,
+    );
+    let rule = memory::halves_rule(seed);
+    match halves::best(rule, call, r, above, last, givens, table) {
+        Found::Nothing => tallied(t, 0, row_differs(picked, 0, 0, 1)),
+        Found::Half(c, worth, _) => tallied(t, 1, row_differs(picked, c, worth, 0)),
+    }
+}
+
+// 0 where that row was picked, with its worth; where none was, what is to be counted then.
+fn row_differs(picked: Picked, c: usize, worth: usize, none: usize) -> usize {
+    match picked {
+        Picked::Nothing => 1 - none % 2,
+        Picked::Row { row: d, worth: x } => {
+            if none == 1 {
+                return 1;
+            }
+            if c != d {
+                return 1;
+            }
+            if worth == x { 0 } else { 1 }
+        }
     }
 }

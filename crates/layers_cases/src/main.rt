@@ -2,6 +2,7 @@
 // compared. Prints what was tried.
 mod calls;
 mod fills;
+mod halves;
 mod memory;
 mod random;
 
@@ -18,6 +19,7 @@ fn try_all(a: &mut [u16], b: &mut [u16], wide: &mut [u16]) {
     try_whole_layers(a, b);
     try_other_layers(a, b);
     try_other_calls(a, b);
+    try_halves(a, b);
     try_wide_layers(wide);
 }
 
@@ -49,6 +51,24 @@ fn try_other_layers(a: &mut [u16], b: &mut [u16]) {
 fn try_other_calls(a: &mut [u16], b: &mut [u16]) {
     fills::try_group(b"parts of layers: ", Group::Parts, 240, a, b);
     fills::try_group(b"calls to be refused: ", Group::Refused, 240, a, b);
+}
+
+fn try_halves(a: &mut [u16], b: &mut [u16]) {
+    fills::try_group(
+        b"layers of halves, against a plain search: ",
+        Group::Halves,
+        240,
+        a,
+        b,
+    );
+    fills::try_group(
+        b"layers of halves to be refused: ",
+        Group::HalvesRefused,
+        80,
+        a,
+        b,
+    );
+    fills::try_rows(b"rows by halves, against a plain search: ", 240, a);
 }
 
 fn try_wide_layers(table: &mut [u16]) {

@@ -42,6 +42,19 @@ fn wide(x: u16) -> usize {
     x as usize
 }
 
+// A byte; past the end one that is no mark.
+pub fn byte(bytes: &[u8], k: usize) -> usize {
+    if k < bytes.len() {
+        wide_byte(bytes[k])
+    } else {
+        255
+    }
+}
+
+fn wide_byte(x: u8) -> usize {
+    x as usize
+}
+
 // Writes an entry, unless it is past the end.
 pub fn put(table: &mut [u16], k: usize, entry: usize) {
     if k < table.len() {
@@ -94,15 +107,29 @@ pub fn bytes_of(seed: usize) -> [u8; 512] {
     next
 }
 
-// The table of a pseudo-random rule; most are without birth on 0 to 2, under which few rows stay as they are.
+// The table of a pseudo-random rule.
 pub fn rules_of(seed: usize) -> [u8; 512] {
+    rule::table::of(rule_of(seed))
+}
+
+// Most are without birth on 0 to 2, under which few rows stay as they are.
+fn rule_of(seed: usize) -> Rule {
     let from = if random::below(4, seed, 5000000) == 0 {
         511
     } else {
         504
     };
-    rule::table::of(Rule {
+    Rule {
         births: random::below(512, seed, 5000001) & from,
         survivals: random::below(512, seed, 5000002),
-    })
+    }
+}
+
+// The rule of a call by halves: Conway's, or a pseudo-random one.
+pub fn halves_rule(seed: usize) -> Rule {
+    if seed / 4 % 2 == 0 {
+        rule::conway()
+    } else {
+        rule_of(seed)
+    }
 }

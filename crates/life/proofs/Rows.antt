@@ -25,7 +25,7 @@ use Rattle.life.proofs.Far.{leads-of-ring}
 -- ---- digits
 module _ (cells : List ℕ) (small : (k : ℕ) → getD cells k 0 ≤ 1) (place : ℕ) where
   -- without its last d digits a row's number is that of its first cells
-  shorter : (m d : ℕ) → rowNumber cells place (m + d) / 2 ^ d ≡ rowNumber cells place m
+  pub shorter : (m d : ℕ) → rowNumber cells place (m + d) / 2 ^ d ≡ rowNumber cells place m
   unfolding rowNumber
   shorter m zero = rw (add-zero m) (div-one (rowNumber cells place m))
   shorter m (suc d) =
@@ -40,8 +40,14 @@ module _ (cells : List ℕ) (small : (k : ℕ) → getD cells k 0 ≤ 1) (place 
   digit-is m d = rw (shorter (suc m) d) (omega (arith, small (place + m)))
 
   -- in column c of w
-  cell-is : (w c : ℕ) → 0 < c → c ≤ w → rowNumber cells place w / 2 ^ (w - c) % 2 ≡ getD cells (place + (c - 1)) 0
+  pub cell-is : (w c : ℕ) → 0 < c → c ≤ w → rowNumber cells place w / 2 ^ (w - c) % 2 ≡ getD cells (place + (c - 1)) 0
   cell-is w c p q = let e : suc (c - 1) + (w - c) ≡ w = omega arith in rw e at (digit-is (c - 1) (w - c))
+
+  -- n cells have n digits
+  pub number-lt : (n : ℕ) → rowNumber cells place n < 2 ^ n
+  unfolding rowNumber
+  number-lt zero = omega arith
+  number-lt (suc n) = omega (arith, number-lt n, small (place + n), pow-suc 2 n)
 
 -- ---- rows as cells
 zero-cell : (w : ℕ) (c : ℤ) → cellOf w 0 c ≡ 0

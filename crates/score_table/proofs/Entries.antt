@@ -14,7 +14,7 @@ use Rattle.elimination.specs.Kind.{Kind, offerIf, choose, entry, worthOf}
 use Rattle.elimination.specs.Table.{reads}
 use Rattle.elimination.proofs.Kind.{entry-last, entry-more}
 use Rattle.life.specs.Rows.{agree}
-use Rattle.score_table.specs.Rows.{rowKept}
+use Rattle.score_table.specs.Rows.{rowKept, digitsOf, rowFor}
 use Rattle.score_table.specs.ScoreTable.{absent, kindFor, readsFrom}
 use Rattle.score_table.specs.Inner.{choiceOf, compared, kindBy, Found, entryOver}
 use Rattle.score_table.specs.declared.Want.{Want}
@@ -24,28 +24,28 @@ use Rattle.board.proofs.Powers.{four-two}
 -- ---- a row's givens and its layer
 -- the choice goes by the place of the givens alone, and the middle row stays as it is
 choose-here : (want : Want) (next : ℕ → ℕ) (w h : ℕ) (givens : List ℕ) (k a b : ℕ) (read : ℕ → ℕ)
-    → choose (kindFor want next w h givens) k a b read ≡ choose (kindBy want next w b givens ((h - suc k) * w)) 0 a b read
+    → choose (kindFor want next w h givens) k a b read ≡ choose (kindBy want next w (rowFor want w b) givens ((h - suc k) * w)) 0 a b read
 unfolding choose
 choose-here want next w h givens k a b read =
-    ap (λ (f : ℕ → Option ℕ). scan (compared want) f (2 ^ w)) (fun-ext λ c. go (agree next w a b c && rowKept w givens ((h - suc k) * w) c) c)
+    ap (λ (f : ℕ → Option ℕ). scan (compared want) f (2 ^ digitsOf want w)) (fun-ext λ c. go (agree next w (rowFor want w a) (rowFor want w b) (rowFor want w c) && rowKept w givens ((h - suc k) * w) (rowFor want w c)) c)
   where
-    go : (t : Bool) (c : ℕ) → offerIf (kindFor want next w h givens) t k read c ≡ offerIf (kindBy want next w b givens ((h - suc k) * w)) t 0 read c
+    go : (t : Bool) (c : ℕ) → offerIf (kindFor want next w h givens) t k read c ≡ offerIf (kindBy want next w (rowFor want w b) givens ((h - suc k) * w)) t 0 read c
     go true c = refl
     go false c = refl
 
 choose-at : (want : Want) (next : ℕ → ℕ) (w h : ℕ) (givens : List ℕ) (k a b : ℕ) (read : ℕ → ℕ) {at : ℕ} → (h - suc k) * w ≡ at
-    → choose (kindFor want next w h givens) k a b read ≡ choose (kindBy want next w b givens at) 0 a b read
+    → choose (kindFor want next w h givens) k a b read ≡ choose (kindBy want next w (rowFor want w b) givens at) 0 a b read
 choose-at want next w h givens k a b read e =
-    choose-here want next w h givens k a b read ∙ ap (λ (x : ℕ). choose (kindBy want next w b givens x) 0 a b read) e
+    choose-here want next w h givens k a b read ∙ ap (λ (x : ℕ). choose (kindBy want next w (rowFor want w b) givens x) 0 a b read) e
 
 -- the numbers read for the rows below b are those from the place of its part of the layer on
-reads-from : (want : Want) (next : ℕ → ℕ) (w h : ℕ) (givens table : List ℕ) (source b first : ℕ) → first ≡ source + b * 2 ^ w
+reads-from : (want : Want) (next : ℕ → ℕ) (w h : ℕ) (givens table : List ℕ) (source b first : ℕ) → first ≡ source + b * 2 ^ digitsOf want w
     → reads (kindFor want next w h givens) table source b ≡ readsFrom table first
 unfolding reads
 reads-from want next w h givens table source b first e = fun-ext λ c. ap (λ (p : ℕ). getD table p 0) (omega arith)
 
-module _ (want : Want) (next : ℕ → ℕ) (w h : ℕ) (givens table : List ℕ) (r source a b first : ℕ) (start : first ≡ source + b * 2 ^ w) (o : Best)
-    (F : Found want w o (choose (kindBy want next w b givens (r * w)) 0 a b (readsFrom table first))) where
+module _ (want : Want) (next : ℕ → ℕ) (w h : ℕ) (givens table : List ℕ) (r source a b first t : ℕ) (start : first ≡ source + b * 2 ^ digitsOf want w)
+    (stays : t ≡ rowFor want w b) (o : Best) (F : Found want w o (choose (kindBy want next w t givens (r * w)) 0 a b (readsFrom table first))) where
   abbrev K : Kind ℕ
   K = kindFor want next w h givens
 
@@ -53,7 +53,7 @@ module _ (want : Want) (next : ℕ → ℕ) (w h : ℕ) (givens table : List ℕ
   found-choice : (k : ℕ) → h - suc k ≡ r → choiceOf o ≡ choose K k a b (reads K table source b)
   found-choice k e =
       F .is
-      ∙ rw (reads-from want next w h givens table source b first start) (sym (choose-at want next w h givens k a b (readsFrom table first) (ap (λ (n : ℕ). n * w) e)))
+      ∙ rw (stays, reads-from want next w h givens table source b first start) (sym (choose-at want next w h givens k a b (readsFrom table first) (ap (λ (n : ℕ). n * w) e)))
 
   -- choosing a row
   pub found-row : r < h → choiceOf o ≡ choose K (h - suc r) a b (reads K table source b)
@@ -65,46 +65,45 @@ module _ (want : Want) (next : ℕ → ℕ) (w h : ℕ) (givens table : List ℕ
   found-entry (suc k) z e = ap (worthOf absent) (found-choice k e) ∙ sym (entry-more K k a b (reads K table source b))
 
 -- ---- room
--- the w cells of a row, and the 2^w entries of a row of a layer
+-- the w cells of a row, and the entries of a row of a layer, one for each number of so many binary digits
 pub row-room : (w h r : ℕ) → r < h → r * w + w ≤ w * h
 row-room w h r l = omega (arith, mul-le-mul-right w l)
 
-pub layer-room : (w source b n m : ℕ) → n ≡ 2 ^ w → b < 2 ^ w → source + 4 ^ w ≤ m → source + b * n + 2 ^ w ≤ m
-layer-room w source b n m en l f =
-    let x : (b + 1) * 2 ^ w ≤ 2 ^ w * 2 ^ w = mul-le-mul-right (2 ^ w) (omega arith) in
-    rw en (omega (arith, four-two w))
+pub layer-room : (bits source b n m : ℕ) → n ≡ 2 ^ bits → b < 2 ^ bits → source + 4 ^ bits ≤ m → source + b * n + 2 ^ bits ≤ m
+layer-room bits source b n m en l f =
+    let x : (b + 1) * 2 ^ bits ≤ 2 ^ bits * 2 ^ bits = mul-le-mul-right (2 ^ bits) (omega arith) in
+    rw en (omega (arith, four-two bits))
 
 -- ---- entry j of a layer: its rows a and b, and its number
-module _ (w j n : ℕ) (en : n ≡ 2 ^ w) where
-  pub row-a-lt : j < 4 ^ w → j / n < 2 ^ w
-  row-a-lt l = rw en (div-lt-iff-lt-mul (pow-pos w) .1 (rw (four-two w) at l))
+module _ (bits j n : ℕ) (en : n ≡ 2 ^ bits) where
+  pub row-a-lt : j < 4 ^ bits → j / n < 2 ^ bits
+  row-a-lt l = rw en (div-lt-iff-lt-mul (pow-pos bits) .1 (rw (four-two bits) at l))
 
-  pub row-b-lt : j % n < 2 ^ w
-  row-b-lt = rw en (mod-lt j (pow-pos w))
+  pub row-b-lt : j % n < 2 ^ bits
+  row-b-lt = rw en (mod-lt j (pow-pos bits))
 
-  module _ (want : Want) (next : ℕ → ℕ) (h k source : ℕ) (givens table : List ℕ) where
-    -- the last layer
-    abbrev last : ℕ → ℕ → Bool
-    last a b = agree next w a b 0
-
-    entry-at-last : k ≡ 0 → (s t : Bool) → last (j / n) (j % n) ≡ s → last (j % n) 0 ≡ t → entryOver want next w h k source j givens table ≡ cond (s && t) 0 absent
-    entry-at-last z s t e f =
-        let p : agree next w (j / 2 ^ w) (j % 2 ^ w) 0 ≡ s = rw en at e in
-        let r : agree next w (j % 2 ^ w) 0 0 ≡ t = rw en at f in
+module _ (want : Want) (w j n : ℕ) (en : n ≡ 2 ^ digitsOf want w) (next : ℕ → ℕ) (h k source : ℕ) (givens table : List ℕ) (t : ℕ)
+    (et : t ≡ rowFor want w (j % n)) where
+  -- the last layer
+  module _ (z : k ≡ 0) (a : ℕ) (ea : a ≡ rowFor want w (j / n)) where
+    entry-at-last : (s u : Bool) → agree next w a t 0 ≡ s → agree next w t 0 0 ≡ u → entryOver want next w h k source j givens table ≡ cond (s && u) 0 absent
+    entry-at-last s u e f =
+        let p : agree next w (rowFor want w (j / 2 ^ digitsOf want w)) (rowFor want w (j % 2 ^ digitsOf want w)) 0 ≡ s = rw (ea, et, en) at e in
+        let r : agree next w (rowFor want w (j % 2 ^ digitsOf want w)) 0 0 ≡ u = rw (et, en) at f in
         rw z (entry-last (kindFor want next w h givens) _ _ _ ∙ rw (p, r))
 
-    pub entry-apart : k ≡ 0 → last (j / n) (j % n) ≡ false → absent ≡ entryOver want next w h k source j givens table
-    entry-apart z e = sym (entry-at-last z false (last (j % n) 0) e refl)
+    pub entry-apart : agree next w a t 0 ≡ false → absent ≡ entryOver want next w h k source j givens table
+    entry-apart e = sym (entry-at-last false (agree next w t 0 0) e refl)
 
-    pub entry-open : k ≡ 0 → last (j / n) (j % n) ≡ true → last (j % n) 0 ≡ false → absent ≡ entryOver want next w h k source j givens table
-    entry-open z e f = sym (entry-at-last z true false e f)
+    pub entry-open : agree next w a t 0 ≡ true → agree next w t 0 0 ≡ false → absent ≡ entryOver want next w h k source j givens table
+    entry-open e f = sym (entry-at-last true false e f)
 
-    pub entry-ends : k ≡ 0 → last (j / n) (j % n) ≡ true → last (j % n) 0 ≡ true → 0 ≡ entryOver want next w h k source j givens table
-    entry-ends z e f = sym (entry-at-last z true true e f)
+    pub entry-ends : agree next w a t 0 ≡ true → agree next w t 0 0 ≡ true → 0 ≡ entryOver want next w h k source j givens table
+    entry-ends e f = sym (entry-at-last true true e f)
 
-    -- a layer above
-    pub entry-best : (k ≡ 0 → ⊥) → (o : Best)
-        → Found want w o (choose (kindBy want next w (j % n) givens ((h - k) * w)) 0 (j / n) (j % n) (readsFrom table (source + j % n * n)))
-        → worthOf absent (choiceOf o) ≡ entryOver want next w h k source j givens table
-    entry-best z o F =
-        rw en at (found-entry want next w h givens table (h - k) source (j / n) (j % n) (source + j % n * n) (rw en) o F k z refl)
+  -- a layer above
+  pub entry-best : (k ≡ 0 → ⊥) → (o : Best)
+      → Found want w o (choose (kindBy want next w t givens ((h - k) * w)) 0 (j / n) (j % n) (readsFrom table (source + j % n * n)))
+      → worthOf absent (choiceOf o) ≡ entryOver want next w h k source j givens table
+  entry-best z o F =
+      rw en at (found-entry want next w h givens table (h - k) source (j / n) (j % n) (source + j % n * n) t (rw en) et o F k z refl)

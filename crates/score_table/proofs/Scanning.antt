@@ -19,7 +19,7 @@ use Rattle.elimination.proofs.Kind.{offer-some, choose-scan}
 use Rattle.elimination.proofs.Order.{tied-refl}
 use Rattle.elimination.proofs.Sums.{sum-worse-ordered, tied-equal}
 use Rattle.life.specs.Rows.{becomes, stepsTo}
-use Rattle.score_table.specs.Rows.{rowWorth, rowKept}
+use Rattle.score_table.specs.Rows.{rowWorth, rowKept, digitsOf, rowFor}
 use Rattle.score_table.specs.Inner.{choiceOf, compared, kindBy, Found}
 use Rattle.score_table.proofs.Marks.{row-worth-le}
 use Rattle.score_table.specs.declared.Want.{Want}
@@ -30,27 +30,34 @@ module _ (want : Want) (next : ℕ → ℕ) (w : ℕ) (givens : List ℕ) (at a 
   abbrev pub G : Kind ℕ
   G = kindBy want next w t givens at
 
+  -- three numbers' rows: whether the middle one becomes t, all of it or in column j
+  abbrev steps : ℕ → Bool
+  steps x = stepsTo next w (rowFor want w a) (rowFor want w b) (rowFor want w x) t
+
+  abbrev pub turns : ℕ → ℕ → Bool
+  turns x j = becomes next w (rowFor want w a) (rowFor want w b) (rowFor want w x) t j
+
   -- what a row offers
   abbrev pub offers : ℕ → Option ℕ
   offers = offer G 0 a b read
 
   -- ---- a candidate that offers nothing, and one that offers something
-  pub offer-apart : (x j : ℕ) → j < w + 2 → becomes next w a b x t j ≡ false → offers x ≡ none
+  pub offer-apart : (x j : ℕ) → j < w + 2 → turns x j ≡ false → offers x ≡ none
   unfolding stepsTo
-  offer-apart x j l e = rw (all-false (becomes next w a b x t) (w + 2) j l e)
+  offer-apart x j l e = rw (all-false (turns x) (w + 2) j l e)
 
-  pub offer-barred : (x : ℕ) → rowKept w givens at x ≡ false → offers x ≡ none
-  offer-barred x e = rw (e, and-false (stepsTo next w a b x t))
+  pub offer-barred : (x : ℕ) → rowKept w givens at (rowFor want w x) ≡ false → offers x ≡ none
+  offer-barred x e = rw (e, and-false (steps x))
 
   pub offer-absent : (x : ℕ) → want .limit < read x → offers x ≡ none
-  offer-absent x l = go (stepsTo next w a b x t && rowKept w givens at x)
+  offer-absent x l = go (steps x && rowKept w givens at (rowFor want w x))
     where
       go : (t : Bool) → offerIf G t 0 read x ≡ none
       go true = rw (lt-leb (read x) (want .limit) l)
       go false = refl
 
-  pub offer-sum : (x : ℕ) → stepsTo next w a b x t ≡ true → rowKept w givens at x ≡ true → read x ≤ want .limit
-      → offers x ≡ some (rowWorth w givens at x + read x)
+  pub offer-sum : (x : ℕ) → steps x ≡ true → rowKept w givens at (rowFor want w x) ≡ true → read x ≤ want .limit
+      → offers x ≡ some (rowWorth w givens at (rowFor want w x) + read x)
   offer-sum x p q l = rw (p, q, le-leb (read x) (want .limit) l)
 
   -- ---- what the loop holds: the best of the candidates below c
@@ -84,10 +91,10 @@ module _ (want : Want) (next : ℕ → ℕ) (w : ℕ) (givens : List ℕ) (at a 
   -- ---- the end of the search
   -- a row that is chosen is one, and its number is small
   record Small (c n : ℕ) : Type 0 where
-    row-lt : c < 2 ^ w
+    row-lt : c < 2 ^ digitsOf want w
     number-le : n ≤ want .limit + w
 
-  small : (o : Choice ℕ) → Candidates.Found (compared want) offers (2 ^ w) o → (c n : ℕ) → o ≡ chosen c n → Small c n
+  small : (o : Choice ℕ) → Candidates.Found (compared want) offers (2 ^ digitsOf want w) o → (c n : ℕ) → o ≡ chosen c n → Small c n
   small nothing (noneFound f) c n e = absurd (let z : _≡_ {A = ℕ} 0 1 = cc in omega arith)
   small (chosen r y) (bestFound _ _ B) c n e =
       let p : r ≡ c = cc in
@@ -95,16 +102,16 @@ module _ (want : Want) (next : ℕ → ℕ) (w : ℕ) (givens : List ℕ) (at a 
       let o = offer-some G 0 a b read r (B .worth) (B .offered) in
       record {
         row-lt = rw p at (B .inside);
-        number-le = omega (arith, tied-equal (want .least) (B .tied), o .worth, row-worth-le w givens at r, leb-true (read r) (want .limit) (o .counted));
+        number-le = omega (arith, tied-equal (want .least) (B .tied), o .worth, row-worth-le w givens at (rowFor want w r), leb-true (read r) (want .limit) (o .counted));
       }
 
-  pub found : {c : ℕ} {held : Best} → Held c held → c ≡ 2 ^ w → Found want w held (choose G 0 a b read)
+  pub found : {c : ℕ} {held : Best} → Held c held → c ≡ 2 ^ digitsOf want w → Found want w held (choose G 0 a b read)
   found {c} {held} H m = record { is = e ∙ sym (choose-scan G 0 a b read); row-lt = λ c n q. here c n q .row-lt; number-le = λ c n q. here c n q .number-le }
     where
-      e : choiceOf held ≡ scan (compared want) offers (2 ^ w)
+      e : choiceOf held ≡ scan (compared want) offers (2 ^ digitsOf want w)
       e = rw m at (H .is)
 
       here : (c n : ℕ) → held ≡ Row c n → Small c n
       here c n q =
-          small (scan (compared want) offers (2 ^ w))
-          (scan-finds-best (compared want) (sum-worse-ordered (want .least)) (λ x y t. tied-refl (sum-worse-ordered (want .least)) x) offers (2 ^ w)) c n (sym e ∙ ap choiceOf q)
+          small (scan (compared want) offers (2 ^ digitsOf want w))
+          (scan-finds-best (compared want) (sum-worse-ordered (want .least)) (λ x y t. tied-refl (sum-worse-ordered (want .least)) x) offers (2 ^ digitsOf want w)) c n (sym e ∙ ap choiceOf q)

@@ -1,7 +1,7 @@
 -- What the inner functions are lent and answer, in the terms of the score table.
 -- Assumes nothing.
 use mathlib.Core.Path.{_≡_}
-use mathlib.Core.Bool.{Bool}
+use mathlib.Core.Bool.{Bool, true, cond}
 use mathlib.Core.List.{List}
 use Prim.Native.Nat.{ℕ, _+_, _*_, _-_, _/_, _%_, _^_, _≤_, _<_}
 use lib.Dec.{eqb}
@@ -12,6 +12,7 @@ use Rattle.elimination.specs.Kind.{Kind, entry}
 use Rattle.elimination.specs.Sums.{sumWorse, sumKind}
 use Rattle.elimination.specs.Table.{reads}
 use Rattle.life.specs.Rows.{window, stepsTo}
+use Rattle.score_table.specs.Rows.{digitsOf}
 use Rattle.score_table.specs.ScoreTable.{rules, kindFor}
 use Rattle.score_table.specs.declared.Want.{Want}
 use Rattle.score_table.specs.declared.best.Best.{Best}
@@ -30,9 +31,9 @@ abbrev pub passes : (ℕ → ℕ) → ℕ → ℕ → ℕ → ℕ → Bool
 passes next w column c j = eqb (next ((column + window w c j) % 512)) ((column + window w c j) / 512)
 
 -- ---- the search
--- the next row that differs from x in columns 1 to j + 1
+-- the next number of so many binary digits that differs from x in columns 1 to j + 1
 unfoldable pub skipTo : ℕ → ℕ → ℕ → ℕ
-skipTo w x j = (x / 2 ^ (w - (j + 1)) + 1) * 2 ^ (w - (j + 1))
+skipTo bits x j = (x / 2 ^ (bits - (j + 1)) + 1) * 2 ^ (bits - (j + 1))
 
 -- what the search for the best row found, as a choice
 abbrev pub choiceOf : Best → Choice ℕ
@@ -43,35 +44,41 @@ choiceOf (Row c n) = chosen c n
 abbrev pub compared : Want → Comparison ℕ
 compared want = record { worse = sumWorse (want .least); greaterFirst = want .«greater_first»; merge = λ x y. x }
 
--- one search: the middle row has to become t, and the candidates keep the givens that start at a place
+-- one search: the middle row has to become t, a row of w cells, and the candidates keep the givens that start at a place
 abbrev pub kindBy : Want → (ℕ → ℕ) → ℕ → ℕ → List ℕ → ℕ → Kind ℕ
 kindBy want next w t givens at = sumKind (rules want (λ a b c. stepsTo next w a b c t) w (λ k. at) givens)
 
 -- the best row is the rule's choice; a row that is found is one, and its number is at most the limit and a row's worth
 pub record Found (want : Want) (w : ℕ) (r : Best) (wanted : Choice ℕ) : Type 0 where
   pub is : choiceOf r ≡ wanted
-  pub row-lt : (c n : ℕ) → r ≡ Best.Row c n → c < 2 ^ w
+  pub row-lt : (c n : ℕ) → r ≡ Best.Row c n → c < 2 ^ digitsOf want w
   pub number-le : (c n : ℕ) → r ≡ Best.Row c n → n ≤ want .limit + w
 
 -- ---- the filling of entries
--- the entries of a layer
+-- the entries of a layer, by the binary digits of a row's number
 abbrev pub layerSize : ℕ → ℕ
-layerSize w = 4 ^ w
+layerSize bits = 4 ^ bits
+
+-- a row's number has at most 10 binary digits; one that is a left half stands for two cells with each
+pub record Width (halves : Bool) (w : ℕ) : Type 0 where
+  pub narrow : cond halves (w / 2) w ≤ maxWidth
+  pub even : halves ≡ true → w % 2 ≡ 0
 
 -- a grid's givens, lent
-pub record Memory (w h : ℕ) (givens : List ℕ) : Type 0 where
-  pub narrow : w ≤ maxWidth
+pub record Memory (halves : Bool) (w h : ℕ) (givens : List ℕ) : Type 0 where
+  pub width : Width halves w
   pub low : h ≤ maxHeight
   pub marks : length givens ≡ w * h
 
 -- the m entries from entry j on of a layer with k rows after it, and the layer at `source` that they read; the last layer reads none
-pub record EntriesRead (w h k source j m : ℕ) (givens table : List ℕ) : Type 0 where
-  pub memory : Memory w h givens
+pub record EntriesRead (want : Want) (w h k source j m : ℕ) (givens table : List ℕ) : Type 0 where
+  pub memory : Memory (want .halves) w h givens
   pub after : k < h
-  pub inside : j + m ≤ 4 ^ w
-  pub layer : (k ≡ 0 → ⊥) → source + 4 ^ w ≤ length table
+  pub inside : j + m ≤ 4 ^ digitsOf want w
+  pub layer : (k ≡ 0 → ⊥) → source + 4 ^ digitsOf want w ≤ length table
 
 -- the number that entry j has to be, over what the table holds
 abbrev pub entryOver : Want → (ℕ → ℕ) → ℕ → ℕ → ℕ → ℕ → ℕ → List ℕ → List ℕ → ℕ
 entryOver want next w h k source j givens table =
-    entry (kindFor want next w h givens) k (j / 2 ^ w) (j % 2 ^ w) (reads (kindFor want next w h givens) table source (j % 2 ^ w))
+    entry (kindFor want next w h givens) k (j / 2 ^ digitsOf want w) (j % 2 ^ digitsOf want w)
+    (reads (kindFor want next w h givens) table source (j % 2 ^ digitsOf want w))

@@ -1,14 +1,19 @@
--- Document 01, "Grid, row word, givens", and Req 01, of one row: what it is worth, and the givens that it keeps.
--- A row is its number; column k + 1 is counted by k, from 0.
+-- Document 01, "Grid, row word, givens", and Req 01, of one row: what it is worth, and the givens that it keeps; and the whole row of one that is
+-- held as its left half. A row is its number; column k + 1 is counted by k, from 0.
 -- Assumes nothing.
+use mathlib.Core.Path.{_≡_}
 use mathlib.Core.Bool.{Bool, true, cond}
 use mathlib.Core.List.{List}
-use Prim.Native.Nat.{ℕ, _+_}
+use Prim.Native.Nat.{ℕ, _+_, _*_, _-_, _/_, _%_, _^_, _<_}
 use lib.Dec.{eqb}
 use lib.ListN.{getD}
+use Rattle.board.specs.Boards.{maxWidth}
+use Rattle.board.specs.Lists.{listed}
 use Rattle.board.specs.Search.{allBelow}
 use Rattle.board.specs.Sums.{total}
-use Rattle.life.specs.Rows.{digitIn}
+use Rattle.life.specs.Rows.{rowNumber, digitIn}
+use Rattle.board_rows.specs.Rows.{rowCell}
+use Rattle.score_table.specs.declared.Want.{Want}
 
 -- a cell keeps its mark: 1 given dead, 2 given live, otherwise free
 unfoldable pub markKept : ℕ → ℕ → Bool
@@ -29,3 +34,32 @@ rowKept w givens at row = allBelow (λ k. markKept (getD givens (at + k) 0) (dig
 -- one more than what a row earns, where it keeps the givens that start at a place of the grid; 0 where it doesn't
 unfoldable pub rowGain : ℕ → List ℕ → ℕ → ℕ → ℕ
 rowGain w givens at row = cond (rowKept w givens at row) (1 + rowWorth w givens at row) 0
+
+-- ---- rows that are held as their left halves
+-- the most columns of such a row
+abbrev pub widest : ℕ
+widest = 2 * maxWidth
+
+-- the number of the row of w cells whose left half is c: the number that the cells which c stands for read as
+unfoldable pub wholeRow : ℕ → ℕ → ℕ
+wholeRow w c = rowNumber (listed (rowCell (w / 2) c) w) 0 w
+
+-- the binary digits of a row's number
+abbrev pub digitsOf : Want → ℕ → ℕ
+digitsOf want w = cond (want .halves) (w / 2) w
+
+-- the row that a number stands for
+abbrev pub rowFor : Want → ℕ → ℕ → ℕ
+rowFor want w c = cond (want .halves) (wholeRow w c) c
+
+-- the whole row has w cells, and they are those that its left half stands for; so the half stands on the left, and the row equals its own left-right
+-- reflection: column w - k has the cell of column k + 1
+pub record Whole (w c : ℕ) : Type 0 where
+  pub row : wholeRow w c < 2 ^ w
+  pub cell : (k : ℕ) → k < w → digitIn w (wholeRow w c) (k + 1) ≡ rowCell (w / 2) c k
+  pub left : wholeRow w c / 2 ^ (w / 2) ≡ c
+  pub reflected : (k : ℕ) → k < w → digitIn w (wholeRow w c) (w - k) ≡ digitIn w (wholeRow w c) (k + 1)
+
+-- THE WHOLE ROWS: so it is for every even width and every number of half as many binary digits
+abbrev pub RowsWhole : Type 0
+RowsWhole = (w c : ℕ) → w % 2 ≡ 0 → c < 2 ^ (w / 2) → Whole w c

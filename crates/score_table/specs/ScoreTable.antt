@@ -13,30 +13,31 @@ use Rattle.elimination.specs.Task.{Task, fill, row}
 use Rattle.elimination.specs.FillThenChoose.{plan}
 use Rattle.elimination.specs.TwoLayers as Two
 use Rattle.life.specs.Rows.{agree}
-use Rattle.score_table.specs.Rows.{rowWorth, rowKept}
+use Rattle.score_table.specs.Rows.{rowWorth, rowKept, digitsOf, rowFor}
 use Rattle.score_table.specs.declared.Want.{Want}
 
 -- the number that stands for none
 abbrev pub absent : ℕ
 absent = 65535
 
--- what is wanted of a grid: the greatest number of free live cells, among equals the smallest row; a number read above 600 counts as none
+-- what is wanted of a grid: the greatest number of free live cells, among equals the smallest row; a number read above 600 counts as none, and a
+-- row's cells are its number's digits
 abbrev pub mostLive : Want
-mostLive = record { least = false; «greater_first» = false; limit = 600 }
+mostLive = record { least = false; «greater_first» = false; limit = 600; halves = false }
 
 -- What is asked: the sum of free live cells that is wanted. Row c may stand below a over b where the three agree and c keeps the givens of its
 -- row, which start at `givensAt k` with k rows after it; the board may end below a over b where (a, b, 0) and (b, 0, 0) agree. `agreed` is whether
--- three rows agree.
+-- three rows agree. a, b and c are numbers, and each goes by the row that it stands for.
 abbrev pub rules : Want → (ℕ → ℕ → ℕ → Bool) → ℕ → (ℕ → ℕ) → List ℕ → SumRules
 rules want agreed w givensAt givens = record {
   least = want .least;
   greaterFirst = want .«greater_first»;
   absent = absent;
   limit = want .limit;
-  worth = λ k c. rowWorth w givens (givensAt k) c;
-  codes = 2 ^ w;
-  may = λ k a b c. agreed a b c && rowKept w givens (givensAt k) c;
-  mayEnd = λ a b. agreed a b 0 && agreed b 0 0;
+  worth = λ k c. rowWorth w givens (givensAt k) (rowFor want w c);
+  codes = 2 ^ digitsOf want w;
+  may = λ k a b c. agreed (rowFor want w a) (rowFor want w b) (rowFor want w c) && rowKept w givens (givensAt k) (rowFor want w c);
+  mayEnd = λ a b. agreed (rowFor want w a) (rowFor want w b) 0 && agreed (rowFor want w b) 0 0;
 }
 
 -- of a grid of h rows, which agree by `next`: the row with k rows after it has h - k - 1 rows above it

@@ -11,7 +11,8 @@ ghost use Rattle.elimination.specs.Candidates as Candidates;
 ghost use Rattle.elimination.specs.Kind.{choose};
 ghost use Rattle.elimination.specs.Sums.{sumWorse};
 ghost use Rattle.score_table.specs.ScoreTable.{readsFrom};
-ghost use Rattle.score_table.specs.Inner.{skipTo, choiceOf, compared, kindBy, Found};
+ghost use Rattle.score_table.specs.Rows.{widest, digitsOf};
+ghost use Rattle.score_table.specs.Inner.{skipTo, choiceOf, compared, kindBy, Found, Width};
 
 pub enum Best {
     Nothing,
@@ -19,12 +20,12 @@ pub enum Best {
     Row(usize, usize),
 }
 
-// The next row that differs from x in columns 1 to j + 1: every row before it has the cells of x there.
-fn next_row(w: usize, x: usize, j: usize) -> usize
-    requires { ⌜ (w ≤ maxWidth) × (x < 2 ^ w) × (j ≤ w + 1) ⌝ }
-    ensures { λ r. ⌜ (r ≡ skipTo w x j) × (x < r) × (r ≤ 2 ^ w) ⌝ }
+// The next number of so many binary digits that differs from x in columns 1 to j + 1: every row before it has the cells of x there.
+fn next_row(bits: usize, x: usize, j: usize) -> usize
+    requires { ⌜ (bits ≤ maxWidth) × (x < 2 ^ bits) × (j ≤ widest + 1) ⌝ }
+    ensures { λ r. ⌜ (r ≡ skipTo bits x j) × (x < r) × (r ≤ 2 ^ bits) ⌝ }
 {
-    let s = if j + 1 < w { w - (j + 1) } else { 0 };
+    let s = if j + 1 < bits { bits - (j + 1) } else { 0 };
     ((x >> s) + 1) << s
 }
 
@@ -56,8 +57,8 @@ fn consider(want: Want, held: Best, row: usize, sum: usize) -> Best
     }
 }
 
-// The best row below a over b, which has to become t: of the rows c below which it does and that keep the givens that start at a place, and for
-// which the table has a number from `first` on that isn't none, the one with the wanted sum of its worth and the number.
+// The best row below a over b, which has to become t, a row of w cells: of the rows c below which it does and that keep the givens that start at a
+// place, and for which the table has a number from `first` on that isn't none, the one with the wanted sum of its worth and the number.
 pub fn best_row(
     next: &[u8; 512],
     want: Want,
@@ -70,11 +71,12 @@ pub fn best_row(
     table: &[u16],
     first: usize,
 ) -> Best
-    requires { ⌜ (w ≤ maxWidth) × (a < 2 ^ w) × (b < 2 ^ w) × (t < 2 ^ w) × (at + w ≤ length (now givens)) × (first + 2 ^ w ≤ length (now table)) ⌝ }
+    requires { ⌜ Width (want .halves) w × (a < 2 ^ digitsOf want w) × (b < 2 ^ digitsOf want w) × (t < 2 ^ w) × (at + w ≤ length (now givens)) × (first + 2 ^ digitsOf want w ≤ length (now table)) ⌝ }
     ensures { λ r. ⌜ Found want w r (choose (kindBy want (entryOf (now (next .entry))) w t (now (givens .entry)) at) 0 a b (readsFrom (now (table .entry)) first)) ⌝ }
 {
-    let n = rows::row_codes(w);
-    let columns = rows::columns(w, a, b, t);
+    let bits = rows::digits_of(want, w);
+    let n = rows::row_codes(bits);
+    let columns = rows::columns(w, rows::row_for(want, w, a), rows::row_for(want, w, b), t);
     let mut c = 0;
     let mut held = Best::Nothing;
     'rows: loop {
@@ -82,22 +84,23 @@ pub fn best_row(
             break held;
         }
         let x = c;
+        let row = rows::row_for(want, w, x);
         let mut j = 0;
-        while j < w + 2 {
-            if !rows::passes(next, w, columns[j], x, j) {
-                c = next_row(w, x, j);
+        while j != w + 2 {
+            if !rows::passes(next, w, columns[j], row, j) {
+                c = next_row(bits, x, j);
                 continue 'rows;
             }
             j += 1;
         }
         c = x + 1;
-        if !rows::row_kept(w, givens, at, x) {
+        if !rows::row_kept(w, givens, at, row) {
             continue 'rows;
         }
         let e = table[first + x] as usize;
         if want.limit < e {
             continue 'rows;
         }
-        held = consider(want, held, x, rows::row_worth(w, givens, at, x) + e);
+        held = consider(want, held, x, rows::row_worth(w, givens, at, row) + e);
     }
 }

@@ -10,15 +10,16 @@ ghost use Prim.Native.Nat.{_+_, _<_, _≤_, _^_};
 ghost use lib.ListN.{length};
 ghost use Rattle.elimination.specs.Table.{fillEntry, fillEntries};
 ghost use Rattle.rule.specs.Rule.{entryOf};
+ghost use Rattle.score_table.specs.Rows.{digitsOf};
 ghost use Rattle.score_table.specs.ScoreTable.{absent, kindFor};
 ghost use Rattle.score_table.specs.Inner.{EntriesRead, entryOver, layerSize};
 
-// The entries of a layer, 4^w.
-pub fn layer_size(w: usize) -> usize
-    requires { ⌜ w ≤ maxWidth ⌝ }
-    ensures { λ r. ⌜ (r ≡ layerSize w) × (0 < r) × (r ≤ 1048576) ⌝ }
+// The entries of a layer, 4 to the binary digits of a row's number.
+pub fn layer_size(bits: usize) -> usize
+    requires { ⌜ bits ≤ maxWidth ⌝ }
+    ensures { λ r. ⌜ (r ≡ layerSize bits) × (0 < r) × (r ≤ 1048576) ⌝ }
 {
-    board::table_size(w, 1)
+    board::table_size(bits, 1)
 }
 
 // The number of entry j of the layer with k rows after it, over the numbers that the table holds in the layer that starts at `source`.
@@ -33,23 +34,24 @@ fn entry_at(
     givens: &[u8],
     table: &[u16],
 ) -> u16
-    requires { ⌜ EntriesRead w h k source j 1 (now givens) (now table) × (want .limit + w < absent) ⌝ }
+    requires { ⌜ EntriesRead want w h k source j 1 (now givens) (now table) × (want .limit + w < absent) ⌝ }
     ensures { λ r. ⌜ r ≡ entryOver want (entryOf (now (next .entry))) w h k source j (now (givens .entry)) (now (table .entry)) ⌝ }
 {
-    let n = rows::row_codes(w);
+    let n = rows::row_codes(rows::digits_of(want, w));
     let a = j / n;
     let b = j % n;
+    let t = rows::row_for(want, w, b);
     if k == 0 {
-        if !rows::steps_to(next, w, a, b, 0, b) {
+        if !rows::steps_to(next, w, rows::row_for(want, w, a), t, 0, t) {
             return NONE;
         }
-        if !rows::steps_to(next, w, b, 0, 0, 0) {
+        if !rows::steps_to(next, w, t, 0, 0, 0) {
             return NONE;
         }
         return 0;
     }
     let r = h - k;
-    match best::best_row(next, want, w, a, b, b, givens, r * w, table, source + b * n) {
+    match best::best_row(next, want, w, a, b, t, givens, r * w, table, source + b * n) {
         Best::Nothing => NONE,
         Best::Row(_, e) => e as u16,
     }
@@ -68,7 +70,7 @@ fn write_entry(
     givens: &[u8],
     table: &mut [u16],
 )
-    requires { ⌜ EntriesRead w h k source j 1 (now givens) (now table) × (want .limit + w < absent) × (target + 4 ^ w ≤ length (now table)) ⌝ }
+    requires { ⌜ EntriesRead want w h k source j 1 (now givens) (now table) × (want .limit + w < absent) × (target + 4 ^ digitsOf want w ≤ length (now table)) ⌝ }
     ensures { λ _. ⌜ now (table .exit) ≡ fillEntry (kindFor want (entryOf (now (next .entry))) w h (now (givens .entry))) k source target j (now (table .entry)) ⌝ }
 {
     let e = entry_at(next, want, w, h, k, source, j, givens, table);
@@ -89,7 +91,7 @@ pub fn write_entries(
     givens: &[u8],
     table: &mut [u16],
 )
-    requires { ⌜ EntriesRead w h k source from count (now givens) (now table) × (want .limit + w < absent) × (target + 4 ^ w ≤ length (now table)) ⌝ }
+    requires { ⌜ EntriesRead want w h k source from count (now givens) (now table) × (want .limit + w < absent) × (target + 4 ^ digitsOf want w ≤ length (now table)) ⌝ }
     ensures { λ _. ⌜ now (table .exit) ≡ fillEntries (kindFor want (entryOf (now (next .entry))) w h (now (givens .entry))) k source target from count (now (table .entry)) ⌝ }
 {
     for i in 0..count {

@@ -10,7 +10,7 @@ ghost use Rattle.board.specs.Boards.{maxWidth};
 ghost use Prim.Native.Nat.{_≤_};
 ghost use Rattle.rule.specs.Rule.{entryOf};
 ghost use Rattle.score_table.specs.ScoreTable.{mostLive};
-ghost use Rattle.score_table.specs.Calls.{gridFits, callFits, layerFits, fillFits, fillWrites, gainOf, rowPicked, pickedOf};
+ghost use Rattle.score_table.specs.Calls.{widthFits, gridFits, callFits, layerFits, fillFits, fillWrites, gainOf, rowPicked, pickedOf};
 
 // The number that stands for none.
 pub const NONE: u16 = 65535;
@@ -23,6 +23,8 @@ pub struct Want {
     pub greater_first: bool,
     // The greatest number read that doesn't count as none.
     pub limit: usize,
+    // A row's number is its left half, and the row goes on with its reflection.
+    pub halves: bool,
 }
 
 // A row that is chosen, and its worth.
@@ -39,6 +41,7 @@ pub fn most_live() -> Want
         least: false,
         greater_first: false,
         limit: 600,
+        halves: false,
     }
 }
 
@@ -92,7 +95,7 @@ pub fn choose_row(
     givens: &[u8],
     table: &[u16],
 ) -> Picked
-    ensures { λ x. ⌜ x ≡ pickedOf w (now (givens .entry)) r (rowPicked want (entryOf (now (next .entry))) w h r source above last (now (givens .entry)) (now (table .entry))) ⌝ }
+    ensures { λ x. ⌜ x ≡ pickedOf want w (now (givens .entry)) r (rowPicked want (entryOf (now (next .entry))) w h r source above last (now (givens .entry)) (now (table .entry))) ⌝ }
 {
     if !fits(want, w, h, givens) {
         return Picked::Nothing;
@@ -100,10 +103,11 @@ pub fn choose_row(
     if h <= r {
         return Picked::Nothing;
     }
-    if !layer_fits(w, table.len(), source) {
+    let bits = rows::digits_of(want, w);
+    if !layer_fits(bits, table.len(), source) {
         return Picked::Nothing;
     }
-    let n = rows::row_codes(w);
+    let n = rows::row_codes(bits);
     if n <= above {
         return Picked::Nothing;
     }
@@ -112,11 +116,12 @@ pub fn choose_row(
     }
     let at = r * w;
     let first = source + last * n;
-    match best::best_row(next, want, w, above, last, last, givens, at, table, first) {
+    let t = rows::row_for(want, w, last);
+    match best::best_row(next, want, w, above, last, t, givens, at, table, first) {
         Best::Nothing => Picked::Nothing,
         Best::Row(row, _) => Picked::Row {
             row,
-            worth: rows::row_worth(w, givens, at, row),
+            worth: rows::row_worth(w, givens, at, rows::row_for(want, w, row)),
         },
     }
 }
@@ -126,7 +131,7 @@ pub fn choose_row(
 pub fn row_gain(w: usize, h: usize, r: usize, row: usize, givens: &[u8]) -> usize
     ensures { λ x. ⌜ x ≡ gainOf w h r row (now (givens .entry)) ⌝ }
 {
-    if !grid_fits(w, h, givens) {
+    if !grid_fits(false, w, h, givens) {
         return 0;
     }
     if h <= r {
@@ -139,11 +144,24 @@ pub fn row_gain(w: usize, h: usize, r: usize, row: usize, givens: &[u8]) -> usiz
     rows::row_worth(w, givens, at, row) + 1
 }
 
-// Whether the givens are those of a grid of at most 10 by 60 cells.
-fn grid_fits(w: usize, h: usize, givens: &[u8]) -> bool
-    ensures { λ r. ⌜ r ≡ gridFits w h (now (givens .entry)) ⌝ }
+// Whether a width is at most 10; where rows are held as their left halves, whether it is even and at most 20.
+fn width_fits(halves: bool, w: usize) -> bool
+    ensures { λ r. ⌜ r ≡ widthFits halves w ⌝ }
 {
-    if board::MAX_WIDTH < w {
+    if !halves {
+        return w <= board::MAX_WIDTH;
+    }
+    if w % 2 != 0 {
+        return false;
+    }
+    w <= rows::WIDEST
+}
+
+// Whether the givens are those of a grid of such a width, and of at most 60 rows.
+fn grid_fits(halves: bool, w: usize, h: usize, givens: &[u8]) -> bool
+    ensures { λ r. ⌜ r ≡ gridFits halves w h (now (givens .entry)) ⌝ }
+{
+    if !width_fits(halves, w) {
         return false;
     }
     if board::MAX_HEIGHT < h {
@@ -156,18 +174,18 @@ fn grid_fits(w: usize, h: usize, givens: &[u8]) -> bool
 fn fits(want: Want, w: usize, h: usize, givens: &[u8]) -> bool
     ensures { λ r. ⌜ r ≡ callFits want w h (now (givens .entry)) ⌝ }
 {
-    if !grid_fits(w, h, givens) {
+    if !grid_fits(want.halves, w, h, givens) {
         return false;
     }
     want.limit < NONE as usize - w
 }
 
-// Whether the layer that starts at a place lies within a table of n entries.
-fn layer_fits(w: usize, n: usize, at: usize) -> bool
-    requires { ⌜ w ≤ maxWidth ⌝ }
-    ensures { λ r. ⌜ r ≡ layerFits w n at ⌝ }
+// Whether the layer that starts at a place lies within a table of n entries, where a row's number has so many binary digits.
+fn layer_fits(bits: usize, n: usize, at: usize) -> bool
+    requires { ⌜ bits ≤ maxWidth ⌝ }
+    ensures { λ r. ⌜ r ≡ layerFits bits n at ⌝ }
 {
-    let q = filling::layer_size(w);
+    let q = filling::layer_size(bits);
     if n < q {
         return false;
     }
@@ -195,18 +213,19 @@ pub fn fill_fits(
     if h <= after {
         return false;
     }
-    let q = filling::layer_size(w);
+    let bits = rows::digits_of(want, w);
+    let q = filling::layer_size(bits);
     if q < count {
         return false;
     }
     if q - count < from {
         return false;
     }
-    if !layer_fits(w, n, target) {
+    if !layer_fits(bits, n, target) {
         return false;
     }
     if after == 0 {
         return true;
     }
-    layer_fits(w, n, source)
+    layer_fits(bits, n, source)
 }

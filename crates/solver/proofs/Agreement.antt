@@ -54,15 +54,15 @@ module _ (next : ℕ → ℕ) (table : List ℕ) (H : Holds next table) where
 
   module _ (w h : ℕ) (g t : List ℕ) where
     -- the filling of entries
-    pub filled : (k source target j m : ℕ) → EntriesRead w h k source j m g t → target + 4 ^ w ≤ length t
+    pub filled : (k source target j m : ℕ) → EntriesRead mostLive w h k source j m g t → target + 4 ^ w ≤ length t
         → fillWrites mostLive (entryOf table) w h k source target j m g t ≡ fillEntries (kindOf next w h g) k source target j m t
     filled k source target j m R l =
-        sym (fill-done mostLive w h g (entryOf table) k source target j m t (read-fits mostLive w h g k source target j m t R (small (R .memory .narrow)) l))
+        sym (fill-done mostLive w h g (entryOf table) k source target j m t (read-fits mostLive w h g k source target j m t R (small (R .memory .width .narrow)) l))
         ∙ ap (λ (K : Kind ℕ). fillEntries K k source target j m t) (kind-same w h g)
 
     -- the choice of a row
-    pub picked : Memory w h g → (r source a b : ℕ) → r < h → source + 4 ^ w ≤ length t → a < 2 ^ w → b < 2 ^ w
+    pub picked : Memory (mostLive .halves) w h g → (r source a b : ℕ) → r < h → source + 4 ^ w ≤ length t → a < 2 ^ w → b < 2 ^ w
         → rowPicked mostLive (entryOf table) w h r source a b g t ≡ choose (kindOf next w h g) (h - suc r) a b (reads (kindOf next w h g) t source b)
     picked M r source a b l f m n =
-        picked-choice mostLive w h g (entryOf table) r source a b t (call-fits mostLive w h g M (small (M .narrow))) l (le-leb (source + 4 ^ w) (length t) f) m n
+        picked-choice mostLive w h g (entryOf table) r source a b t (call-fits mostLive w h g M (small (M .width .narrow))) l (le-leb (source + 4 ^ w) (length t) f) m n
         ∙ ap (λ (K : Kind ℕ). choose K (h - suc r) a b (reads K t source b)) (kind-same w h g)

@@ -3,8 +3,8 @@
 use mathlib.Core.Path.{_≡_, refl, sym, _∙_, ap}
 use mathlib.Core.Bool.{Bool, true, false, cond}
 use mathlib.Core.List.{List}
-use Prim.Native.Nat.{ℕ, zero, suc, _+_, _*_, _-_, _/_, _%_, _^_, _≤_, _<_}
-use native.Mathlib.Nat.{pow-suc, mul-comm, div-add-mod', mod-lt, div-lt-iff-lt-mul}
+use Prim.Native.Nat.{ℕ, suc, _+_, _*_, _-_, _/_, _%_, _^_, _<_}
+use native.Mathlib.Nat.{mul-comm, div-add-mod', mod-lt, div-lt-iff-lt-mul}
 use native.Mathlib.Numerals.{add-one}
 use native.Mathlib.Omega.{arith}
 use lib.IntN.{ℤ, pos}
@@ -18,15 +18,9 @@ use Rattle.board.proofs.Tests.{among-yes, among-past}
 use Rattle.life.specs.Plane.{onPlane}
 use Rattle.life.specs.Rows.{rowNumber, rowOf, digitIn, cellOf}
 use Rattle.life.proofs.OnPlane.{on-board, state-small}
-use Rattle.life.proofs.Rows.{row-cells}
+use Rattle.life.proofs.Rows.{number-lt, row-cells}
 use Rattle.solver.specs.Grid.{score}
 use Rattle.score_table.specs.Rows.{cellWorth, rowWorth}
-
--- ---- a row's number
-number-lt : (cells : List ℕ) → ((k : ℕ) → getD cells k 0 ≤ 1) → (at n : ℕ) → rowNumber cells at n < 2 ^ n
-unfolding rowNumber
-number-lt cells small at zero = omega arith
-number-lt cells small at (suc n) = omega (arith, number-lt cells small at n, small (at + n), pow-suc 2 n)
 
 -- rows outside 1 to h are dead
 module _ (w h : ℕ) (cells : List ℕ) where

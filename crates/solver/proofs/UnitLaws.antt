@@ -14,7 +14,7 @@ use Rattle.job.specs.Jobs.{planOf, shapeOf, aboveOf, lastOf, markOf, jobFits}
 use Rattle.rule.specs.Rule.{nextUnder}
 use Rattle.elimination.specs.Kind.{choose}
 use Rattle.elimination.specs.Table.{reads, fillEntry}
-use Rattle.score_table.specs.ScoreTable.{kindOf}
+use Rattle.score_table.specs.ScoreTable.{mostLive, kindOf}
 use Rattle.elimination.specs.Task.{Task, fill, row}
 use Rattle.elimination.proofs.Rounds.{FillAt, fill-at, row-at}
 use Rattle.board.proofs.Powers.{four-pos}
@@ -23,6 +23,7 @@ use Rattle.service.specs.Service.{next, spoiled}
 use Rattle.solver.specs.Units.{State, Step, setupOf, unitOf}
 use Rattle.solver.specs.Inner.{Lent, Chooses}
 use Rattle.score_table.specs.Inner.{Memory, EntriesRead}
+use Rattle.score_table.proofs.WholeRows.{width-digits}
 use Rattle.job.specs.declared.Kind.{Kind}
 use Rattle.job.specs.declared.Job.{Job}
 use Rattle.job.proofs.Shapes.{shape-rounds}
@@ -90,9 +91,9 @@ unit-lent g s s′ L e =
     }
 
 -- ---- what they have shown, by the job's task
-pub lent-memory : {j : Job} {g t β : List ℕ} → Lent j g t β → Memory (j .width) (j .height) g
+pub lent-memory : {j : Job} {g t β : List ℕ} → Lent j g t β → Memory (mostLive .halves) (j .width) (j .height) g
 lent-memory {j} L =
-    let z = fits-frame j (L .taken) .size in record { narrow = z .narrow; low = z .low; marks = L .marks }
+    let z = fits-frame j (L .taken) .size in record { width = width-digits (z .narrow); low = z .low; marks = L .marks }
 
 -- where an entry is to be filled: it is one of its layer's, and the layers lie within the table
 module _ {j : Job} {g t β : List ℕ} {k source target i : ℕ} (L : Lent j g t β) (m : markOf (j .stage) ≡ 0)
@@ -103,7 +104,7 @@ module _ {j : Job} {g t β : List ℕ} {k source target i : ℕ} (L : Lent j g t
   pub lent-entry : (j .width ≤ maxWidth) × (i < 4 ^ j .width)
   lent-entry = (fits-frame j (L .taken) .size .narrow, at .inside)
 
-  pub lent-read : (n : ℕ) → i + n ≤ 4 ^ j .width → EntriesRead (j .width) (j .height) k source i n g t × (target + 4 ^ j .width ≤ length t)
+  pub lent-read : (n : ℕ) → i + n ≤ 4 ^ j .width → EntriesRead mostLive (j .width) (j .height) k source i n g t × (target + 4 ^ j .width ≤ length t)
   lent-read n l = (
     record { memory = lent-memory L; after = at .after; inside = l; layer = λ z. omega (arith, at .reads z, L .entries) },
     omega (arith, at .writes, L .entries),

@@ -1,7 +1,7 @@
 -- `layers::fill` meets its contract: a whole layer at once is its entries one after the other, and a part of one is left to `score_table::fill`.
 -- Assumes nothing.
 use mathlib.Core.Path.{_≡_, _∙_, sym}
-use mathlib.Core.Bool.{true}
+use mathlib.Core.Bool.{true, false}
 use lib.ListN.{length}
 use borrow.Author.Needs.{needs}
 use borrow.Author.Tests.{not-true, not-false}
@@ -23,7 +23,9 @@ returns : tie.Need-returns
 returns c = fill-unfit _ _ _ _ _ _ _ _ _ _ _ (sym (c .before .fill-fits .ensures) ∙ not-true _ (c .if1 .taken))
 
 by-columns-requires : tie.Need-by-columns-requires
-by-columns-requires c κs = let g = c .before .before .before .before .args in fits-read (g .want) _ _ _ _ _ _ _ _ (g .table .now) (fitting c) .0 .memory .narrow
+by-columns-requires c κs =
+    let g = c .before .before .before .before .args in
+    λ (e : g .want .halves ≡ false). rw e at (fits-read (g .want) _ _ _ _ _ _ _ _ (g .table .now) (fitting c) .0 .memory .width .narrow)
 
 fill-requires : tie.Need-fill-requires
 fill-requires c κs = let d = c .before in layer-lent _ _ _ _ _ _ _ _ _ _ (fitting (d .before .before)) (once-suits _ _ _ _ _ _ (sym (d .before .by-columns .ensures) ∙ d .if2 .taken))

@@ -7,6 +7,7 @@ use native.Mathlib.Omega.{arith}
 use borrow.Author.Needs.{needs}
 use borrow.Author.Tests.{not-true, not-false}
 use Rattle.board.specs.Boards.{maxWidth}
+use Rattle.score_table.specs.Rows.{digitsOf}
 use Rattle.score_table.specs.Calls.{callFits, layerFits}
 use Rattle.score_table.proofs.Calls.{call-memory, fits-unfit, fits-past, fits-outside, fits-target, fits-last, fits-source}
 use Rattle.score_table.proofs.fill_fits.Statement.{statement}
@@ -16,14 +17,20 @@ use Rattle.score_table.proofs.fill_fits.Tie as tie
 fitting : (c : tie.Else1) → let g = c .before .before .before .args in callFits (g .want) (g .w) (g .h) (g .givens .now) ≡ true
 fitting c = sym (c .before .fits2 .ensures) ∙ not-false _ (c .if1 .left)
 
-narrow : (c : tie.Else1) → c .before .before .before .args .w ≤ maxWidth
-narrow c = call-memory (c .before .before .before .args .want) _ _ _ (fitting c) .narrow
+narrow : (c : tie.After-digits-of) → c .digits-of .result ≤ maxWidth
+narrow c =
+    let d = c .before .before in
+    rw (c .digits-of .ensures) (call-memory (d .before .before .before .args .want) _ _ _ (fitting d) .width .narrow)
 
-inside : (c : tie.Else4) → let g = c .before .before .before .before .before .before .before .args in g .from + g .count ≤ 4 ^ g .w
-inside c = omega (arith, c .before .before .layer-size .ensures .0, c .before .if3 .left, c .if4 .left)
+size : (c : tie.After-layer-size) → let g = c .before .before .before .before .before .before .args in c .layer-size .result ≡ 4 ^ digitsOf (g .want) (g .w)
+size c = rw (c .before .digits-of .ensures) at (c .layer-size .ensures .0)
 
-target-in : (c : tie.Else5) → let g = c .before .before .before .before .before .before .before .before .before .args in layerFits (g .w) (g .n) (g .target) ≡ true
-target-in c = sym (c .before .layer-fits .ensures) ∙ not-false _ (c .if5 .left)
+inside : (c : tie.Else4) → let g = c .before .before .before .before .before .before .before .before .args in g .from + g .count ≤ 4 ^ digitsOf (g .want) (g .w)
+inside c = omega (arith, size (c .before .before), c .before .if3 .left, c .if4 .left)
+
+target-in : (c : tie.Else5) → let g = c .before .before .before .before .before .before .before .before .before .before .args in
+    layerFits (digitsOf (g .want) (g .w)) (g .n) (g .target) ≡ true
+target-in c = rw (c .before .before .before .before .before .digits-of .ensures) at (sym (c .before .layer-fits .ensures) ∙ not-false _ (c .if5 .left))
 
 fits-requires : tie.Need-fits-requires
 fits-requires c κs = search needs
@@ -34,41 +41,48 @@ returns c = fits-unfit _ _ _ _ _ _ _ _ _ _ (sym (c .before .fits2 .ensures) ∙ 
 returns-2 : tie.Need-returns-2
 returns-2 c = fits-past _ _ _ _ _ _ _ _ _ _ (fitting (c .before)) (c .if2 .taken)
 
+digits-of-requires : tie.Need-digits-of-requires
+digits-of-requires c κs = search needs
+
 layer-size-requires : tie.Need-layer-size-requires
-layer-size-requires c κs = narrow (c .before)
+layer-size-requires c κs = narrow c
 
 returns-3 : tie.Need-returns-3
-returns-3 c = fits-outside _ _ _ _ _ _ _ _ _ _ (fitting (c .before .before .before)) (c .before .before .if2 .left) (omega (arith, c .before .layer-size .ensures .0, c .if3 .taken))
+returns-3 c =
+    let d = c .before .before .before in
+    fits-outside _ _ _ _ _ _ _ _ _ _ (fitting (d .before)) (d .if2 .left) (omega (arith, size (c .before), c .if3 .taken))
 
 returns-4 : tie.Need-returns-4
 returns-4 c =
-    let d = c .before in
-    fits-outside _ _ _ _ _ _ _ _ _ _ (fitting (d .before .before .before)) (d .before .before .if2 .left) (omega (arith, d .before .layer-size .ensures .0, d .if3 .left, c .if4 .taken))
+    let b = c .before in
+    let d = b .before .before .before in
+    fits-outside _ _ _ _ _ _ _ _ _ _ (fitting (d .before)) (d .if2 .left) (omega (arith, size (b .before), b .if3 .left, c .if4 .taken))
 
 layer-fits-requires : tie.Need-layer-fits-requires
-layer-fits-requires c κs = narrow (c .before .before .before .before)
+layer-fits-requires c κs = narrow (c .before .before .before)
 
 returns-5 : tie.Need-returns-5
 returns-5 c =
     let d = c .before .before in
-    let e = d .before .before in
-    fits-target _ _ _ _ _ _ _ _ _ _ (fitting (e .before .before)) (e .before .if2 .left) (inside d) (sym (c .before .layer-fits .ensures) ∙ not-true _ (c .if5 .taken))
+    let q = d .before .before .before in
+    fits-target _ _ _ _ _ _ _ _ _ _ (fitting (q .before .before)) (q .before .if2 .left) (inside d)
+    (rw (q .digits-of .ensures) at (sym (c .before .layer-fits .ensures) ∙ not-true _ (c .if5 .taken)))
 
 returns-6 : tie.Need-returns-6
 returns-6 c =
     let d = c .before .before .before in
-    let e = d .before .before in
-    fits-last _ _ _ _ _ _ _ _ _ _ (fitting (e .before .before)) (e .before .if2 .left) (inside d) (target-in (c .before)) (c .if6 .taken)
+    let q = d .before .before .before in
+    fits-last _ _ _ _ _ _ _ _ _ _ (fitting (q .before .before)) (q .before .if2 .left) (inside d) (target-in (c .before)) (c .if6 .taken)
 
 layer-fits-requires-2 : tie.Need-layer-fits-requires-2
-layer-fits-requires-2 c κs = narrow (c .before .before .before .before .before .before .before)
+layer-fits-requires-2 c κs = narrow (c .before .before .before .before .before .before)
 
 returns-7 : tie.Need-returns-7
 returns-7 c =
     let d = c .before .before .before .before in
-    let e = d .before .before in
-    c .layer-fits2 .ensures
-    ∙ fits-source _ _ _ _ _ _ _ _ _ _ (fitting (e .before .before)) (e .before .if2 .left) (inside d) (target-in (c .before .before)) (c .before .if6 .left)
+    let q = d .before .before .before in
+    rw (q .digits-of .ensures) at (c .layer-fits2 .ensures)
+    ∙ fits-source _ _ _ _ _ _ _ _ _ _ (fitting (q .before .before)) (q .before .if2 .left) (inside d) (target-in (c .before .before)) (c .before .if6 .left)
 
 pub fill-fits-spec : {M : Type 1} → statement M
 fill-fits-spec =
@@ -77,6 +91,7 @@ fill-fits-spec =
     fits-requires
     returns
     returns-2
+    digits-of-requires
     layer-size-requires
     returns-3
     returns-4

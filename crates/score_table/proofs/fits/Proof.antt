@@ -3,6 +3,7 @@
 use mathlib.Core.Path.{_∙_, sym}
 use borrow.Author.Needs.{needs}
 use borrow.Author.Tests.{not-true, not-false}
+use Rattle.score_table.proofs.WholeRows.{width-le}
 use Rattle.score_table.proofs.Calls.{grid-of, call-unfit, call-numbers}
 use Rattle.score_table.proofs.fits.Statement.{statement}
 use Rattle.score_table.proofs.fits.Tie as tie
@@ -17,7 +18,7 @@ cast-result : tie.Need-cast-result
 cast-result c = search needs
 
 sub-result : tie.Need-sub-result
-sub-result c = let m = grid-of _ _ _ (sym (c .before .grid-fits .ensures) ∙ not-false _ (c .if1 .left)) .narrow in search needs
+sub-result c = let m = width-le _ _ (grid-of _ _ _ _ (sym (c .before .grid-fits .ensures) ∙ not-false _ (c .if1 .left)) .width) in search needs
 
 returns-2 : tie.Need-returns-2
 returns-2 c = let d = c .before in call-numbers (d .before .before .before .args .want) _ _ _ (sym (d .before .grid-fits .ensures) ∙ not-false _ (d .if1 .left))

@@ -1,7 +1,7 @@
 -- `score_table::row_gain` meets its contract, test by test.
 -- Assumes nothing.
 use mathlib.Core.Path.{_≡_, _∙_, sym}
-use mathlib.Core.Bool.{true}
+use mathlib.Core.Bool.{true, false}
 use Prim.Native.Nat.{_+_, _*_, _≤_}
 use native.Mathlib.Nat.{mul-le-mul}
 use native.Mathlib.Omega.{arith}
@@ -16,11 +16,11 @@ use Rattle.score_table.proofs.row_gain.Statement.{statement}
 use Rattle.score_table.proofs.row_gain.Tie as tie
 
 -- what the tests that are passed show
-fitting : (c : tie.Else1) → let g = c .before .before .before .args in gridFits (g .w) (g .h) (g .givens .now) ≡ true
+fitting : (c : tie.Else1) → let g = c .before .before .before .args in gridFits false (g .w) (g .h) (g .givens .now) ≡ true
 fitting c = sym (c .before .grid-fits .ensures) ∙ not-false _ (c .if1 .left)
 
-memory : (c : tie.Else1) → let g = c .before .before .before .args in Memory (g .w) (g .h) (g .givens .now)
-memory c = grid-of _ _ _ (fitting c)
+memory : (c : tie.Else1) → let g = c .before .before .before .args in Memory false (g .w) (g .h) (g .givens .now)
+memory c = grid-of _ _ _ _ (fitting c)
 
 room : (c : tie.Else2) → let g = c .before .before .before .before .args in g .r * g .w + g .w ≤ length (g .givens .now)
 room c = omega (arith, row-room (c .before .before .before .before .args .w) _ _ (c .if2 .left), memory (c .before) .marks)
@@ -35,10 +35,10 @@ returns-2 : tie.Need-returns-2
 returns-2 c = gain-past _ _ _ _ _ (fitting (c .before)) (c .if2 .taken)
 
 mul-at : tie.Need-mul-at
-mul-at c = omega (arith, room c, memory (c .before) .marks, mul-le-mul (memory (c .before) .narrow) (memory (c .before) .low))
+mul-at c = omega (arith, room c, memory (c .before) .marks, mul-le-mul (memory (c .before) .width .narrow) (memory (c .before) .low))
 
 row-kept-requires : tie.Need-row-kept-requires
-row-kept-requires c κs = (memory (c .before) .narrow, room c)
+row-kept-requires c κs = (omega (arith, memory (c .before) .width .narrow), room c)
 
 returns-3 : tie.Need-returns-3
 returns-3 c =
@@ -46,10 +46,10 @@ returns-3 c =
     gain-lost _ _ _ _ _ (fitting (d .before)) (d .if2 .left) (sym (c .before .row-kept .ensures) ∙ not-true _ (c .if3 .taken))
 
 row-worth-requires : tie.Need-row-worth-requires
-row-worth-requires c κs = let d = c .before .before in (memory (d .before) .narrow, room d)
+row-worth-requires c κs = let d = c .before .before in (omega (arith, memory (d .before) .width .narrow), room d)
 
 add-result : tie.Need-add-result
-add-result c = omega (arith, c .row-worth .ensures .1, memory (c .before .before .before .before) .narrow)
+add-result c = omega (arith, c .row-worth .ensures .1, memory (c .before .before .before .before) .width .narrow)
 
 returns-4 : tie.Need-returns-4
 returns-4 c =

@@ -25,7 +25,7 @@ abbrev μ-loop : tie.MeasureT-loop
 
 -- the number of rows, which come in eights
 rows-are : (c : tie.Start Inv-loop μ-loop) → 1 * 2 ^ c .args .w % 2 ^ 64 ≡ 2 ^ c .args .w
-rows-are c = two-shift (c .pre .memory .narrow)
+rows-are c = two-shift (c .pre .memory .width .narrow)
 
 whole : (c : tie.Start Inv-loop μ-loop) → 8 * (1 * 2 ^ c .args .w % 2 ^ 64 / 8) ≡ 2 ^ c .args .w
 whole c =
@@ -35,7 +35,7 @@ whole c =
     rw (rows-are c) (omega arith)
 
 shl-n : tie.Need-shl-n Inv-loop μ-loop
-shl-n c = omega (arith, c .before .before .pre .memory .narrow)
+shl-n c = omega (arith, c .before .before .pre .memory .width .narrow)
 
 cast-limit : tie.Need-cast-limit Inv-loop μ-loop
 cast-limit c = omega (arith, c .before .before .before .pre .small)
@@ -72,12 +72,12 @@ fill-eight-requires c κs =
     let i = l .loop .inv in
     let q = four-two (g .args .w) in (
       (
-        g .pre .memory .narrow,
+        g .pre .memory .width .narrow,
         rows-are g,
         omega (arith, whole g, i .1, c .before .before .before .before .before .before .before .loop-test .taken),
         omega (arith, g .pre .reads, q, i .6 .long),
         omega (arith, g .pre .writes, q, i .6 .long),
-        gained _ _ (g .pre .memory .narrow) (g .pre .small) (l .before .before .before .gains .ensures),
+        gained _ _ (g .pre .memory .width .narrow) (g .pre .small) (l .before .before .before .gains .ensures),
       ),
       (i .2, i .3, i .4, i .5),
     )
@@ -111,7 +111,7 @@ returns c =
     let l = c .before in
     let g = l .before .before .before .before .before .before .before .before in
     let e : 8 * l .loop .v ≡ 2 ^ g .args .w = omega (arith, whole g, l .loop .inv .0, l .loop .inv .1, c .loop-test .left) in
-    layer-done _ _ _ _ _ _ _ _ _ _ (g .pre) (apart-rows _ _ _ (g .pre .suits .apart)) (gains-are _ _ (g .pre .memory .narrow) (l .before .before .before .gains .ensures)) (rw e at (l .loop .inv .6))
+    layer-done _ _ _ _ _ _ _ _ _ _ (g .pre) (apart-rows _ _ _ (g .pre .suits .apart)) (gains-are _ _ (g .pre .memory .width .narrow) (l .before .before .before .gains .ensures)) (rw e at (l .loop .inv .6))
 
 pub fill-spec : {M : Type 1} → statement M
 fill-spec =

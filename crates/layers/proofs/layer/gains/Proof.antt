@@ -21,12 +21,12 @@ abbrev μ-loop : tie.MeasureT-loop
 
 -- what a row earns and 1 is at most one more than the width, and there are at most 1,024 rows
 gain : (c : tie.After-row-gain Inv-loop μ-loop) → let g = c .before .before .before .before .args in c .row-gain .result ≡ rowGain (g .w) (g .givens .now) (g .r * g .w) (c .before .before .loop .c)
-gain c = let p = c .before .before .before .before .pre in c .row-gain .ensures ∙ gain-row _ _ _ _ _ (grid-fits _ _ _ (p .0)) (p .2)
+gain c = let p = c .before .before .before .before .pre in c .row-gain .ensures ∙ gain-row _ _ _ _ _ (grid-fits _ _ _ _ (p .0)) (p .2)
 
 few : (c : tie.In-loop Inv-loop μ-loop) → c .before .loop .c < 1024
 few c =
     let p = c .before .before .before .pre in
-    let l : 2 ^ c .before .before .before .args .w ≤ 1024 = pow-mono (p .0 .narrow) in
+    let l : 2 ^ c .before .before .before .args .w ≤ 1024 = pow-mono (p .0 .width .narrow) in
     omega (arith, p .1, c .loop-test .taken)
 
 loop-holds : tie.Need-loop-holds Inv-loop μ-loop
@@ -36,7 +36,7 @@ row-gain-requires : tie.Need-row-gain-requires Inv-loop μ-loop
 row-gain-requires c κs = search needs
 
 cast-g : tie.Need-cast-g Inv-loop μ-loop
-cast-g c = let g = c .before .before .before .before in omega (arith, gain c, gain-most (g .args .w) (g .args .givens .now) (g .args .r * g .args .w) (c .before .before .loop .c), g .pre .0 .narrow)
+cast-g c = let g = c .before .before .before .before in omega (arith, gain c, gain-most (g .args .w) (g .args .givens .now) (g .args .r * g .args .w) (c .before .before .loop .c), g .pre .0 .width .narrow)
 
 mul-worth : tie.Need-mul-worth Inv-loop μ-loop
 mul-worth c = omega (arith, few (c .before))

@@ -15,16 +15,16 @@ use Rattle.score_table.proofs.rows.steps_to.Statement.{statement}
 use Rattle.score_table.proofs.rows.steps_to.Tie as tie
 
 abbrev Inv-loop : tie.InvT-loop
-Inv-loop next w a b c t j₀ j-end j = (j-end ≡ w + 2) × (j ≤ j-end) × (allBelow (becomes (entryOf next) w a b c t) j ≡ true)
+Inv-loop next w a b c t j₀ j = (j ≤ w + 2) × (allBelow (becomes (entryOf next) w a b c t) j ≡ true)
 
 abbrev μ-loop : tie.MeasureT-loop
-μ-loop next w a b c t j₀ j-end j = j-end - j
-
-add-j-end : tie.Need-add-j-end Inv-loop μ-loop
-add-j-end c = search needs
+μ-loop next w a b c t j₀ j = w + 2 - j
 
 loop-holds : tie.Need-loop-holds Inv-loop μ-loop
-loop-holds c = (search needs, search needs, all-none _)
+loop-holds c = (search needs, all-none _)
+
+add-loop : tie.Need-add-loop Inv-loop μ-loop
+add-loop c = search needs
 
 column-requires : tie.Need-column-requires Inv-loop μ-loop
 column-requires c κs = search needs
@@ -55,11 +55,11 @@ loop-less : tie.Need-loop-less Inv-loop μ-loop
 loop-less c = search needs
 
 loop-again : tie.Need-loop-again Inv-loop μ-loop
-loop-again c = (search needs, search needs, all-more _ _ (c .before .before .before .before .loop .inv .2) (sym (passed (c .before)) ∙ not-false _ (c .if1 .left)))
+loop-again c = (search needs, all-more _ _ (c .before .before .before .before .loop .inv .1) (sym (passed (c .before)) ∙ not-false _ (c .if1 .left)))
 
 returns-2 : tie.Need-returns-2 Inv-loop μ-loop
 unfolding stepsTo
-returns-2 c = let e : c .before .loop .j ≡ c .before .before .args .w + 2 = omega arith in sym (rw e at (c .before .loop .inv .2))
+returns-2 c = let e : c .before .loop .j ≡ c .before .before .args .w + 2 = omega arith in sym (rw e at (c .before .loop .inv .1))
 
 pub steps-to-spec : {M : Type 1} → statement M
 steps-to-spec =
@@ -67,8 +67,8 @@ steps-to-spec =
     (tie.spec
     Inv-loop
     μ-loop
-    add-j-end
     loop-holds
+    add-loop
     column-requires
     passes-requires
     returns

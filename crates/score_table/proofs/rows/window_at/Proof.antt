@@ -11,7 +11,7 @@ use Rattle.score_table.proofs.rows.window_at.Statement.{statement}
 use Rattle.score_table.proofs.rows.window_at.Tie as tie
 
 mul-result : tie.Need-mul-result
-mul-result c = let b : 2 ^ c .args .w ≤ 1024 = pow-mono (c .pre .0) in omega arith
+mul-result c = let b : 2 ^ c .args .w ≤ 1048576 = pow-mono (c .pre .0) in omega arith
 
 add-result : tie.Need-add-result
 add-result c = search needs

@@ -10,7 +10,7 @@ use Rattle.elimination.specs.Kind.{choose}
 use Rattle.elimination.specs.Table.{reads}
 use Rattle.rule.specs.Rule.{nextUnder}
 use Rattle.job.specs.Jobs.{aboveOf, lastOf}
-use Rattle.score_table.specs.ScoreTable.{kindOf}
+use Rattle.score_table.specs.ScoreTable.{mostLive, kindOf}
 use Rattle.score_table.specs.Calls.{pickedOf}
 use Rattle.board_rows.proofs.Writing.{writes-inside}
 use Rattle.score_table.proofs.Entries.{row-room}
@@ -40,14 +40,14 @@ choice b =
 -- is what is chosen
 told : (b : tie.After-choose-row) →
     let g = b .before .before .before .before .before .before .args in
-    b .choose-row .result ≡ pickedOf (g .job .width) (g .givens .now) (g .r) (choice b)
+    b .choose-row .result ≡ pickedOf mostLive (g .job .width) (g .givens .now) (g .r) (choice b)
 told b =
     let s = b .before .before .before .before .before .before in
     let g = s .args in
     let F = fits-rows _ (s .pre .1 .lent .taken) in
     let R = row-in (s .pre .1) in
     rw (b .before .before .numbers .ensures, b .before .most-live .ensures) at (b .choose-row .ensures)
-    ∙ ap (pickedOf (g .job .width) (g .givens .now) (g .r)) (picked _ _ (s .pre .0) _ _ _ _ (lent-memory (s .pre .1 .lent)) _ _ _ _ (R .inside) (R .layer) (F .0) (F .1))
+    ∙ ap (pickedOf mostLive (g .job .width) (g .givens .now) (g .r)) (picked _ _ (s .pre .0) _ _ _ _ (lent-memory (s .pre .1 .lent)) _ _ _ _ (R .inside) (R .layer) (F .0) (F .1))
 
 numbers-requires : tie.Need-numbers-requires
 numbers-requires c κs = search needs
@@ -65,7 +65,7 @@ returns : tie.Need-returns
 returns c =
     let b = c .before .before .before in
     moves-spoiled _ _ _ _ _ _ (b .before .before .before .before .before .before .pre .1) (c .if1 .taken)
-    (picked-nothing _ _ _ (choice b) (sym (c .before .enum-told .given .1) ∙ told b))
+    (picked-nothing mostLive _ _ _ (choice b) (sym (c .before .enum-told .given .1) ∙ told b))
 
 after-requires : tie.Need-after-requires
 after-requires c κs = search needs
@@ -83,7 +83,7 @@ returns-2 : tie.Need-returns-2
 returns-2 c =
     let b = c .before .before .before .before in
     moves-none _ _ _ _ _ _ (b .before .before .before .before .before .before .pre .1) (c .before .if1 .left)
-    (picked-nothing _ _ _ (choice b) (sym (c .before .before .enum-told .given .1) ∙ told b)) _ (c .after .ensures)
+    (picked-nothing mostLive _ _ _ (choice b) (sym (c .before .before .enum-told .given .1) ∙ told b)) _ (c .after .ensures)
 
 same-length : tie.Need-same-length
 same-length c = search needs
@@ -92,7 +92,7 @@ returns-3 : tie.Need-returns-3
 returns-3 c =
     let d = c .before .before .before in
     let b = d .before .before .before .before .before in
-    let P = picked-row _ _ _ (choice b) _ _ (sym (d .before .before .before .row .given .1) ∙ told b) in
+    let P = picked-row mostLive _ _ _ (choice b) _ _ (sym (d .before .before .before .row .given .1) ∙ told b) in
     let e = d .write-row .ensures ∙ writes-inside _ _ _ _ _ (cells-room b) in
     rw e (moves-row _ _ _ _ _ _ (b .before .before .before .before .before .before .pre .1) _ _ (P .is) _ (rw (P .worth) at (c .after2 .ensures)))
 
