@@ -18,7 +18,7 @@ use Rattle.score_table.specs.Rows.{rowWorth, rowKept, rowGain}
 use Rattle.score_table.specs.ScoreTable.{absent, kindFor}
 use Rattle.score_table.specs.declared.Want.{Want}
 use Rattle.score_table.proofs.WholeRows.{plain, plain-is}
-use Rattle.column_elimination.specs.Columns.{larger, greatest, keepIf, scored, start, entryIn, GreatestIsEntry}
+use Rattle.column_elimination.specs.Columns.{larger, greatest, keepIf, scored, startNumber, entryIn, GreatestIsEntry}
 use Rattle.column_elimination.proofs.Greatest.{larger-none}
 
 -- a choice, and an offer, as one more than the worth; 0 for none
@@ -43,11 +43,11 @@ module _ (want : Want) (next : ℕ → ℕ) (w h : ℕ) (givens : List ℕ) (k a
   at = (h - suc k) * w
 
   abbrev number : ℕ → ℕ
-  number c = keepIf (agree next w a b c) (start (want .limit) w (rowGain w givens at) read c)
+  number c = keepIf (agree next w a b c) (startNumber (want .limit) w (rowGain w givens at) read c)
 
   -- what a row offers
   offered : (c : ℕ) → c < 2 ^ w → counted (offer G k a b read c) ≡ number c
-  unfolding start scored rowGain
+  unfolding startNumber scored rowGain
   offered c l = rw (lt-ltb c (2 ^ w) l) (go (agree next w a b c) (rowKept w givens at c))
     where
       read-in : (t : Bool) → counted (offerCounted t (rowWorth w givens at c + read c)) ≡ cond t (1 + rowWorth w givens at c + read c) 0

@@ -17,7 +17,7 @@ use Rattle.score_table.specs.Rows.{rowWorth, rowKept, rowGain}
 use Rattle.score_table.specs.ScoreTable.{absent, kindFor}
 use Rattle.score_table.specs.declared.Want.{Want}
 use Rattle.score_table.proofs.Marks.{row-worth-le}
-use Rattle.column_elimination.specs.Columns.{keepIf, held, scored, start, entryIn, entryBy, ended, Holds, Ended, Turned, Keeps, lastMask, columnMask, crossed}
+use Rattle.column_elimination.specs.Columns.{keepIf, held, scored, startNumber, entryIn, entryBy, afterLast, VectorHolds, Ended, Turned, Keeps, lastMask, columnMask, crossed}
 use Rattle.column_elimination.specs.Written.{Wrote, Spread}
 use Rattle.column_elimination.proofs.Greatest.{greatest-same}
 use Rattle.column_elimination.proofs.Elimination.{keep-most, held-is-greatest}
@@ -41,8 +41,8 @@ scored-most limit w g e fits h =
     some true l = omega arith
     some false l = omega arith
 
-pub start-most : (limit w : ℕ) (gains read : ℕ → ℕ) → limit + w < absent → ((c : ℕ) → c < 2 ^ w → gains c ≤ w + 1) → (x : ℕ) → start limit w gains read x ≤ 65535
-unfolding start
+pub start-most : (limit w : ℕ) (gains read : ℕ → ℕ) → limit + w < absent → ((c : ℕ) → c < 2 ^ w → gains c ≤ w + 1) → (x : ℕ) → startNumber limit w gains read x ≤ 65535
+unfolding startNumber
 start-most limit w gains read fits h x =
     elim (decLt x (2 ^ w)) [
       | yes l ↦ rw (lt-ltb x (2 ^ w) l) (scored-most limit w (gains x) (read x) fits (h x l))
@@ -54,22 +54,22 @@ pub entry-by : (want : Want) (next : ℕ → ℕ) (w h : ℕ) (givens : List ℕ
     → a < 2 ^ w → b < 2 ^ w → ((c : ℕ) → c < 2 ^ w → gains c ≡ rowGain w givens ((h - suc k) * w) c)
     → entryBy (want .limit) next w gains table below a b
     ≡ entry (kindFor want next w h givens) (suc k) a b (reads (kindFor want next w h givens) table below b)
-unfolding entryBy start reads
+unfolding entryBy startNumber reads
 entry-by want next w h givens k a b gains table below most digits la lb same =
     let limit = want .limit in
     let read : ℕ → ℕ = λ c. getD table (below + b * 2 ^ w + c) 0 in
     let wanted : ℕ → ℕ = reads (kindFor want next w h givens) table below b in
     let place : (c : ℕ) → below + b * 2 ^ w + c ≡ below + (b * 2 ^ w + c) = λ c. omega arith in
     ap entryIn
-    (held-is-greatest next w a b (start limit w gains read) la lb (λ c l. rw (le-ltb c (2 ^ w) l))
-    ∙ greatest-same (λ c. keepIf (agree next w a b c) (start limit w gains read c))
-    (λ c. keepIf (agree next w a b c) (start limit w (rowGain w givens ((h - suc k) * w)) wanted c)) (2 ^ w)
+    (held-is-greatest next w a b (startNumber limit w gains read) la lb (λ c l. rw (le-ltb c (2 ^ w) l))
+    ∙ greatest-same (λ c. keepIf (agree next w a b c) (startNumber limit w gains read c))
+    (λ c. keepIf (agree next w a b c) (startNumber limit w (rowGain w givens ((h - suc k) * w)) wanted c)) (2 ^ w)
     (λ c l. ap (keepIf (agree next w a b c)) (rw (same c l, digits, place c))))
     ∙ greatest-is-entry want next w h givens k a b wanted most digits
 
 -- ---- the last two columns
 pub ended-spread : (next : ℕ → ℕ) (keep : List ℕ) → Keeps next keep → (w b out : ℕ) (vector last : List ℕ) {table new : List ℕ}
-    → Spread (2 ^ w) out b (2 ^ w) (λ a l. entryIn (ended vector last a l)) table new
+    → Spread (2 ^ w) out b (2 ^ w) (λ a l. entryIn (afterLast vector last a l)) table new
     → ((t : ℕ) → t < 128 → getD last t 0 ≡ lastMask keep w b t) → Ended next w b out vector table new
 ended-spread next keep K w b out vector last S M = record {
   spread = λ f small H. record {
@@ -128,16 +128,16 @@ module _ (next : ℕ → ℕ) (keep : List ℕ) (K : Keeps next keep) (w b j : �
 
 -- ---- eight rows b
 pub eight-entries : (limit : ℕ) (next : ℕ → ℕ) (w b out below n : ℕ) (gains : ℕ → ℕ) {vector table new : List ℕ} → limit + w < absent → n ≡ 2 ^ w → ((c : ℕ) → c < 2 ^ w → gains c ≤ w + 1)
-    → Holds next w b (λ l. start limit w gains (λ c. getD table (below + b * n + l * 2 ^ w + c) 0)) w vector
+    → VectorHolds next w b (λ l. startNumber limit w gains (λ c. getD table (below + b * n + l * 2 ^ w + c) 0)) w vector
     → Ended next w b out vector table new
     → Spread (2 ^ w) out b (2 ^ w) (λ a l. entryBy limit next w gains table below a (b + l)) table new
 unfolding entryBy
 eight-entries limit next w b out below n gains {vector} {table} {new} fits en most H E =
-    let S = E .spread (λ l. start limit w gains (λ c. getD table (below + b * n + l * 2 ^ w + c) 0)) (λ l x. start-most limit w gains (λ c. getD table (below + b * n + l * 2 ^ w + c) 0) fits most x) H in record {
+    let S = E .spread (λ l. startNumber limit w gains (λ c. getD table (below + b * n + l * 2 ^ w + c) 0)) (λ l x. start-most limit w gains (λ c. getD table (below + b * n + l * 2 ^ w + c) 0) fits most x) H in record {
       long = S .long;
       inside = λ a l la ll.
           S .inside a l la ll
-          ∙ ap (λ (p : ℕ). entryIn (held next w (b + l) (start limit w gains (λ c. getD table (p + c) 0)) (w + 2) (4 * a)))
+          ∙ ap (λ (p : ℕ). entryIn (held next w (b + l) (startNumber limit w gains (λ c. getD table (p + c) 0)) (w + 2) (4 * a)))
           (let e : below + b * n + l * 2 ^ w ≡ below + (b + l) * 2 ^ w = rw (en, add-mul b l (2 ^ w)) (omega arith) in e);
       left = S .left;
       right = S .right;

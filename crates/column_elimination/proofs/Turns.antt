@@ -10,7 +10,7 @@ use lib.Bits.{bitAnd}
 use lib.ListN.{getD}
 use lib.Pow.{shr-shr}
 use Rattle.life.specs.Rows.{window}
-use Rattle.column_elimination.specs.Columns.{scored, loaded, mix, crossed, columnMask, lastOf, lastMask}
+use Rattle.column_elimination.specs.Columns.{scored, loaded, mix, crossed, columnMask, lastPair, lastMask}
 use Rattle.column_elimination.specs.Written.{Wrote}
 use Rattle.column_elimination.proofs.Writing.{wrote-join, wrote-same}
 use Rattle.column_elimination.proofs.Sizes.{quot, rest}
@@ -125,7 +125,7 @@ pub last-turn : (keep : List ℕ) (w b t : ℕ) (at past : List ℕ) {a c d : Li
     → Wrote 0 (8 * t) (lastMask keep w b) a c
     → Wrote (8 * t) 8 (λ l. bitAnd (getD keep (128 * (t / 4) + 2 * (t % 4) + getD at l 0) 0) (getD keep (256 * (t / 4 % 2) + 4 * (t % 2) + getD past l 0) 0)) c d
     → Wrote 0 (8 * (t + 1)) (lastMask keep w b) a d
-unfolding lastMask lastOf
+unfolding lastMask lastPair
 last-turn keep w b t at past X Y S W =
     wrote-same
     (wrote-join S W (omega arith) λ l k.

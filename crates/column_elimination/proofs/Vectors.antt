@@ -13,7 +13,7 @@ use lib.ListN.{length, getD}
 use lib.Pow.{pow-pos, pow-add}
 use borrow.Author.Tests.{lt-ltb, le-ltb}
 use Rattle.life.specs.Rows.{window}
-use Rattle.column_elimination.specs.Columns.{larger, keepIf, maskOf, columnKept, held, start, loaded, mix, crossed, Keeps, columnMask, lastOf, lastMask, ended, Holds, Small}
+use Rattle.column_elimination.specs.Columns.{larger, keepIf, maskOf, columnKept, held, startNumber, loaded, mix, crossed, Keeps, columnMask, lastPair, lastMask, afterLast, VectorHolds, Small}
 use Rattle.column_elimination.specs.Written.{Wrote}
 use Rattle.column_elimination.proofs.Writing.{wrote-at}
 use Rattle.column_elimination.proofs.Sizes.{quot, rest}
@@ -53,7 +53,7 @@ module _ (next : ℕ → ℕ) (keep : List ℕ) (K : Keeps next keep) where
   -- of the last two
   last-mask : (w b a c l t : ℕ) → a < 4 → c < 4 → l < 8 → t ≡ 32 * a + 8 * c + l
       → lastMask keep w b t ≡ maskOf (columnKept next w (b + l) w (2 * a) (2 * c) && columnKept next w (b + l) (w + 1) (4 * (a % 2)) (4 * (c % 2)))
-  unfolding lastMask lastOf
+  unfolding lastMask lastPair
   last-mask w b a c l t la lc ll e =
       let x : t / 32 ≡ a = omega arith in
       let y : t / 8 % 4 ≡ c = omega arith in
@@ -69,8 +69,8 @@ module _ (next : ℕ → ℕ) (keep : List ℕ) (K : Keeps next keep) where
 
 -- ---- the numbers loaded
 pub load-holds : (next : ℕ → ℕ) (limit w b : ℕ) (gains table : List ℕ) (first : ℕ) {old new : List ℕ} → Wrote 0 (32 * 2 ^ w) (loaded limit (2 ^ w) gains table first) old new
-    → 32 * 2 ^ w ≤ length old → Holds next w b (λ l. start limit w (λ c. getD gains c 0) (λ c. getD table (first + l * 2 ^ w + c) 0)) 0 new
-unfolding held loaded start
+    → 32 * 2 ^ w ≤ length old → VectorHolds next w b (λ l. startNumber limit w (λ c. getD gains c 0) (λ c. getD table (first + l * 2 ^ w + c) 0)) 0 new
+unfolding held loaded startNumber
 load-holds next limit w b gains table first W room = record {
   at = λ x l h k.
       let y = 8 * x + l in
@@ -118,7 +118,7 @@ module _ (Q r t x : ℕ) (low : t < Q) (is : x ≡ r * Q + t) where
     place-y e = rw (← mul-assoc e 8 Q, mul-comm e 8, mul-assoc 8 e Q) (omega arith)
 
 module _ (next : ℕ → ℕ) (keep : List ℕ) (K : Keeps next keep) (w b j : ℕ) (inside : j < w) (f : ℕ → ℕ → ℕ) (small : Small f) (src masks : List ℕ)
-    (H : Holds next w b f j src) (M : (t : ℕ) → t < 512 → getD masks t 0 ≡ columnMask keep w b j t) where
+    (H : VectorHolds next w b f j src) (M : (t : ℕ) → t < 512 → getD masks t 0 ≡ columnMask keep w b j t) where
   -- one of the two numbers
   half : (x l u v : ℕ) → x < 4 * 2 ^ w → l < 8 → u < 8 → v < 8
       → bitAnd (getD src (8 * x + l) 0) (getD masks (64 * u + 8 * v + l) 0) ≡ keepIf (columnKept next w (b + l) j u v) (held next w (b + l) (f l) j x)
@@ -126,7 +126,7 @@ module _ (next : ℕ → ℕ) (keep : List ℕ) (K : Keeps next keep) (w b j : �
       let t = 64 * u + 8 * v + l in
       rw (H .at x l lx ll, M t (omega arith) ∙ column-mask next keep K w b j u v l t lu lv ll refl) (masked (columnKept next w (b + l) j u v) (held next w (b + l) (f l) j x) (held-most next w (b + l) (f l) 65535 (small l) j x))
 
-  pub column-holds : {old new : List ℕ} → Wrote 0 (32 * 2 ^ w) (crossed src masks (2 ^ (w + 2 - j))) old new → 32 * 2 ^ w ≤ length old → Holds next w b f (j + 1) new
+  pub column-holds : {old new : List ℕ} → Wrote 0 (32 * 2 ^ w) (crossed src masks (2 ^ (w + 2 - j))) old new → 32 * 2 ^ w ≤ length old → VectorHolds next w b f (j + 1) new
   unfolding held crossed mix
   column-holds W long = record {
     at = λ x l lx ll.
@@ -196,7 +196,7 @@ module _ (next : ℕ → ℕ) (w b : ℕ) (s : ℕ → ℕ) where
       ap (λ (m : ℕ). held next w b s m (4 * a + g)) n ∙ rw (e, l, c, d, d′)
 
 module _ (next : ℕ → ℕ) (keep : List ℕ) (K : Keeps next keep) (w b : ℕ) (f : ℕ → ℕ → ℕ) (small : Small f) (src last : List ℕ)
-    (H : Holds next w b f w src) (M : (t : ℕ) → t < 128 → getD last t 0 ≡ lastMask keep w b t) where
+    (H : VectorHolds next w b f w src) (M : (t : ℕ) → t < 128 → getD last t 0 ≡ lastMask keep w b t) where
   -- one of the four numbers
   quarter : (a l q i m : ℕ) → a < 2 ^ w → l < 8 → q < 4 → i ≡ 8 * (4 * a + q) + l → m ≡ 32 * (a % 4) + 8 * q + l
       → bitAnd (getD src i 0) (getD last m 0)
@@ -210,8 +210,8 @@ module _ (next : ℕ → ℕ) (keep : List ℕ) (K : Keeps next keep) (w b : ℕ
       let right : getD last m 0 ≡ maskOf (p && u) = M m (omega arith) ∙ last-mask next keep K w b (a % 4) q l m (omega arith) lq ll em in
       rw (left, right) (masked (p && u) v (held-most next w (b + l) (f l) 65535 (small l) w (4 * a + q)) ∙ keep-both p u v)
 
-  pub ended-held : (a l : ℕ) → a < 2 ^ w → l < 8 → ended src last a l ≡ held next w (b + l) (f l) (w + 2) (4 * a)
-  unfolding ended
+  pub ended-held : (a l : ℕ) → a < 2 ^ w → l < 8 → afterLast src last a l ≡ held next w (b + l) (f l) (w + 2) (4 * a)
+  unfolding afterLast
   ended-held a l la ll =
       let k : ℕ → Bool = λ g. columnKept next w (b + l) (w + 1) (4 * (a % 4 % 2)) g in
       let p : ℕ → Bool = λ q. columnKept next w (b + l) w (2 * (a % 4)) (2 * q) in

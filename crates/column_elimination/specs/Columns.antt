@@ -60,8 +60,8 @@ unfoldable pub scored : ℕ → ℕ → ℕ → ℕ
 scored limit g e = cond (eqb g 0) 0 (cond (leb e limit) (g + e) 0)
 
 -- of every row c, by what rows earn; two cells in front are dead
-unfoldable pub start : ℕ → ℕ → (ℕ → ℕ) → (ℕ → ℕ) → ℕ → ℕ
-start limit w gains read x = cond (ltb x (2 ^ w)) (scored limit (gains x) (read x)) 0
+unfoldable pub startNumber : ℕ → ℕ → (ℕ → ℕ) → (ℕ → ℕ) → ℕ → ℕ
+startNumber limit w gains read x = cond (ltb x (2 ^ w)) (scored limit (gains x) (read x)) 0
 
 -- the entry: 65,535 for none
 unfoldable pub entryIn : ℕ → ℕ
@@ -71,7 +71,7 @@ entryIn v = cond (eqb v 0) absent (v - 1)
 -- the rule's entry
 abbrev pub GreatestIsEntry : Type 0
 GreatestIsEntry = (want : Want) (next : ℕ → ℕ) (w h : ℕ) (givens : List ℕ) (k a b : ℕ) (read : ℕ → ℕ) → want .least ≡ false → want .halves ≡ false
-    → entryIn (greatest (λ c. keepIf (agree next w a b c) (start (want .limit) w (rowGain w givens ((h - suc k) * w)) read c)) (2 ^ w))
+    → entryIn (greatest (λ c. keepIf (agree next w a b c) (startNumber (want .limit) w (rowGain w givens ((h - suc k) * w)) read c)) (2 ^ w))
     ≡ entry (kindFor want next w h givens) (suc k) a b read
 
 -- ---- eight rows b at once: place 8 x + l holds the number at x for the row in lane l
@@ -98,22 +98,22 @@ unfoldable pub columnMask : List ℕ → ℕ → ℕ → ℕ → ℕ → ℕ
 columnMask keep w b j t = getD keep (64 * (t / 64) + 8 * window w (b + t % 8) j + t / 8 % 8) 0
 
 -- those of the last two columns, w and w + 1: by the last two cells of row a and of row c; and by the lane
-unfoldable pub lastOf : List ℕ → ℕ → ℕ → ℕ → ℕ → ℕ
-lastOf keep w b a c =
+unfoldable pub lastPair : List ℕ → ℕ → ℕ → ℕ → ℕ → ℕ
+lastPair keep w b a c =
     bitAnd (getD keep (64 * (2 * a) + 8 * window w b w + 2 * c) 0) (getD keep (64 * (4 * (a % 2)) + 8 * window w b (w + 1) + 4 * (c % 2)) 0)
 
 unfoldable pub lastMask : List ℕ → ℕ → ℕ → ℕ → ℕ
-lastMask keep w b t = lastOf keep w (b + t % 8) (t / 32) (t / 8 % 4)
+lastMask keep w b t = lastPair keep w (b + t % 8) (t / 32) (t / 8 % 4)
 
 -- what the last two columns leave below row a, in a lane
-unfoldable pub ended : List ℕ → List ℕ → ℕ → ℕ → ℕ
-ended src last a l =
+unfoldable pub afterLast : List ℕ → List ℕ → ℕ → ℕ → ℕ
+afterLast src last a l =
     larger
     (larger (bitAnd (getD src (32 * a + l) 0) (getD last (32 * (a % 4) + l) 0)) (bitAnd (getD src (32 * a + 16 + l) 0) (getD last (32 * (a % 4) + 16 + l) 0)))
     (larger (bitAnd (getD src (32 * a + 8 + l) 0) (getD last (32 * (a % 4) + 8 + l) 0)) (bitAnd (getD src (32 * a + 24 + l) 0) (getD last (32 * (a % 4) + 24 + l) 0)))
 
 -- the vector after columns 0 to j - 1 holds what is held for eight rows from b on, whose numbers at the start are f of their lane
-pub record Holds (next : ℕ → ℕ) (w b : ℕ) (f : ℕ → ℕ → ℕ) (j : ℕ) (vector : List ℕ) : Type 0 where
+pub record VectorHolds (next : ℕ → ℕ) (w b : ℕ) (f : ℕ → ℕ → ℕ) (j : ℕ) (vector : List ℕ) : Type 0 where
   pub at : (x l : ℕ) → x < 4 * 2 ^ w → l < 8 → getD vector (8 * x + l) 0 ≡ held next w (b + l) (f l) j x
 
 -- numbers that fit 16 bits
@@ -126,13 +126,13 @@ front j s d = cond (eqb (j % 2) 0) s d
 
 -- column j was done
 pub record Turned (next : ℕ → ℕ) (w b j : ℕ) (s d s′ d′ : List ℕ) : Type 0 where
-  pub holds : (f : ℕ → ℕ → ℕ) → Small f → Holds next w b f j (front j s d) → Holds next w b f (j + 1) (front (j + 1) s′ d′)
+  pub holds : (f : ℕ → ℕ → ℕ) → Small f → VectorHolds next w b f j (front j s d) → VectorHolds next w b f (j + 1) (front (j + 1) s′ d′)
 
 -- the last two columns were done, and the entries written
 pub record Ended (next : ℕ → ℕ) (w b out : ℕ) (vector old new : List ℕ) : Type 0 where
-  pub spread : (f : ℕ → ℕ → ℕ) → Small f → Holds next w b f w vector → Spread (2 ^ w) out b (2 ^ w) (λ a l. entryIn (held next w (b + l) (f l) (w + 2) (4 * a))) old new
+  pub spread : (f : ℕ → ℕ → ℕ) → Small f → VectorHolds next w b f w vector → Spread (2 ^ w) out b (2 ^ w) (λ a l. entryIn (held next w (b + l) (f l) (w + 2) (4 * a))) old new
 
 -- the entry below a over b, by what rows earn and the layer that starts at `below`
 unfoldable pub entryBy : ℕ → (ℕ → ℕ) → ℕ → (ℕ → ℕ) → List ℕ → ℕ → ℕ → ℕ → ℕ
 entryBy limit next w gains table below a b =
-    entryIn (held next w b (start limit w gains (λ c. getD table (below + b * 2 ^ w + c) 0)) (w + 2) (4 * a))
+    entryIn (held next w b (startNumber limit w gains (λ c. getD table (below + b * 2 ^ w + c) 0)) (w + 2) (4 * a))

@@ -14,7 +14,7 @@ use Rattle.board.proofs.Tests.{and-left, and-right}
 use Rattle.life.specs.Rows.{window}
 use Rattle.column_elimination.specs.Written.{Wrote}
 use Rattle.column_elimination.proofs.Writing.{wrote-at}
-use Rattle.columns.specs.Calls.{eightFrom, columnMasksFit, columnFits, Places, Leaves}
+use Rattle.columns.specs.Calls.{eightFrom, columnMasksFit, columnFits, WindowPlaces, Leaves}
 
 -- ---- what a call leaves
 pub leaves-done : {t : Bool} {n : ℕ} {f : ℕ → ℕ} {old new : List ℕ} → t ≡ true → Wrote 0 n f old new → Leaves t n f old new
@@ -88,7 +88,7 @@ module _ (w b j : ℕ) {at : List ℕ} (W : Wrote 0 8 (λ l. 8 * window w (b + l
   pub windows-are : (l : ℕ) → l < 8 → getD at l 0 ≡ 8 * window w (b + l) j
   windows-are l h = wrote-at W (omega (arith, length-replicate {A = ℕ} 8 0)) l h
 
-  pub windows-small : Places at
+  pub windows-small : WindowPlaces at
   windows-small l h =
       let m : window w (b + l) j < 8 = mod-lt (4 * (b + l) / 2 ^ (w + 1 - j)) (lit< tt) in
       omega (arith, windows-are l h)

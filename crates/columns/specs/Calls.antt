@@ -22,8 +22,8 @@ unfoldable pub columnFits : ℕ → ℕ → Bool
 columnFits w j = leb w maxWidth && ltb j w
 
 -- the places of eight rows' patterns, 8 times a window each, among those with the same cells above and below
-abbrev pub Places : List ℕ → Type 0
-Places at = (l : ℕ) → l < 8 → getD at l 0 ≤ 56
+abbrev pub WindowPlaces : List ℕ → Type 0
+WindowPlaces at = (l : ℕ) → l < 8 → getD at l 0 ≤ 56
 
 -- a call that fits writes the first n places; any other leaves all as it was
 pub record Leaves (callFits : Bool) (n : ℕ) (f : ℕ → ℕ) (old new : List ℕ) : Type 0 where

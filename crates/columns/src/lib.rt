@@ -10,7 +10,7 @@ ghost use Rattle.rule.specs.Rule.{entryOf};
 ghost use Rattle.life.specs.Rows.{window};
 ghost use Rattle.column_elimination.specs.Columns.{larger, maskOf, patternKept, mix, crossed, columnMask, lastMask};
 ghost use Rattle.column_elimination.specs.Written.{Wrote};
-ghost use Rattle.columns.specs.Calls.{eightFrom, columnMasksFit, columnFits, Places, Leaves};
+ghost use Rattle.columns.specs.Calls.{eightFrom, columnMasksFit, columnFits, WindowPlaces, Leaves};
 
 // A vector has eight numbers, one a lane, for each of the 2^(w+2) ways to read w + 2 cells: the first ones of row a, the others of row c.
 pub const VECTOR: usize = 32768;
@@ -235,7 +235,7 @@ fn windows(w: usize, b: usize, j: usize, at: &mut [usize; 8])
 
 // Eight lanes of masks.
 fn eight_masks(keep: &[u16; 512], at: &[usize; 8], p: usize, masks: &mut [u16; MASKS], o: usize)
-    requires { ⌜ (p + 56 < 512) × (o + 8 ≤ 512) × Places (now at) ⌝ }
+    requires { ⌜ (p + 56 < 512) × (o + 8 ≤ 512) × WindowPlaces (now at) ⌝ }
     ensures { λ _. ⌜ Wrote o 8 (λ l. getD (now (keep .entry)) (p + getD (now (at .entry)) l 0) 0) (now (masks .entry)) (now (masks .exit)) ⌝ }
 {
     for l in 0..8 {
@@ -288,7 +288,7 @@ fn last_eight(
     masks: &mut [u16; LAST_MASKS],
     o: usize,
 )
-    requires { ⌜ (p + 56 < 512) × (q + 56 < 512) × (o + 8 ≤ 128) × Places (now at) × Places (now past) ⌝ }
+    requires { ⌜ (p + 56 < 512) × (q + 56 < 512) × (o + 8 ≤ 128) × WindowPlaces (now at) × WindowPlaces (now past) ⌝ }
     ensures { λ _. ⌜ Wrote o 8 (λ l. bitAnd (getD (now (keep .entry)) (p + getD (now (at .entry)) l 0) 0) (getD (now (keep .entry)) (q + getD (now (past .entry)) l 0) 0)) (now (masks .entry)) (now (masks .exit)) ⌝ }
 {
     for l in 0..8 {

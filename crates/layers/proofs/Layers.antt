@@ -26,7 +26,7 @@ use Rattle.score_table.specs.Calls.{fillFits, fillWrites}
 use Rattle.score_table.specs.declared.Want.{Want}
 use Rattle.score_table.proofs.WholeRows.{plain, plain-is}
 use Rattle.score_table.proofs.Calls.{fits-read, fill-done}
-use Rattle.column_elimination.specs.Columns.{held, start, entryIn, entryBy, crossed, columnMask, lastMask, ended, front, loaded, maskOf, patternKept, Keeps, Holds, Turned, Ended}
+use Rattle.column_elimination.specs.Columns.{held, startNumber, entryIn, entryBy, crossed, columnMask, lastMask, afterLast, front, loaded, maskOf, patternKept, Keeps, VectorHolds, Turned, Ended}
 use Rattle.column_elimination.specs.Written.{Wrote, Spread}
 use Rattle.column_elimination.proofs.Writing.{wrote-at}
 use Rattle.column_elimination.proofs.Vectors.{load-holds}
@@ -36,8 +36,8 @@ use Rattle.columns.proofs.Calls.{column-fits, masks-fit, eight-fit}
 use Rattle.layers.specs.Layers.{narrowest, areApart, atOnce, Suits, LayerLent, Gained}
 
 -- the numbers at the start ask only the rows
-start-same : (limit w : ℕ) (gains f g : ℕ → ℕ) → ((c : ℕ) → c < 2 ^ w → f c ≡ g c) → start limit w gains f ≡ start limit w gains g
-unfolding start
+start-same : (limit w : ℕ) (gains f g : ℕ → ℕ) → ((c : ℕ) → c < 2 ^ w → f c ≡ g c) → startNumber limit w gains f ≡ startNumber limit w gains g
+unfolding startNumber
 start-same limit w gains f g e =
     fun-ext λ c.
     elim (decLt c (2 ^ w)) [
@@ -86,7 +86,7 @@ numbers-small e G c l = omega (arith, G .small, G .most c (rw e at l))
 -- the numbers loaded
 pub loaded-holds : {w n : ℕ} (limit b : ℕ) (worth table : List ℕ) (first : ℕ) {old new : List ℕ} → w ≤ maxWidth → n ≡ 2 ^ w → length old ≡ 32768
     → Wrote 0 (32 * n) (loaded limit n worth table first) old new
-    → (next : ℕ → ℕ) → Holds next w b (λ l. start limit w (λ c. getD worth c 0) (λ c. getD table (first + l * 2 ^ w + c) 0)) 0 new
+    → (next : ℕ → ℕ) → VectorHolds next w b (λ l. startNumber limit w (λ c. getD worth c 0) (λ c. getD table (first + l * 2 ^ w + c) 0)) 0 new
 loaded-holds {w} limit b worth table first narrow e long W next = load-holds next limit w b worth table first (rw e at W) (vector-fits narrow long)
 
 -- in new arrays: what rows earn, and the masks of the patterns
@@ -125,17 +125,17 @@ module _ (keep : List ℕ) (w b : ℕ) (narrow : w ≤ maxWidth) (eight : b + 8 
     pub last-long : length last ≡ 128
     last-long = M .done (eight-fit w b narrow eight) .long ∙ long
 
-    finish-done : (target n : ℕ) {vector table new : List ℕ} → n ≡ 2 ^ w → Spread n target b n (λ a l. entryIn (ended vector last a l)) table new
+    finish-done : (target n : ℕ) {vector table new : List ℕ} → n ≡ 2 ^ w → Spread n target b n (λ a l. entryIn (afterLast vector last a l)) table new
         → (next : ℕ → ℕ) → Keeps next keep → Ended next w b target vector table new
     finish-done target n {vector} e S next K =
         ended-spread next keep K w b target vector last (rw e at S) (wrote-at (M .done (eight-fit w b narrow eight)) (omega arith))
 
     module _ (target n : ℕ) (s d : List ℕ) {table new : List ℕ} (e : n ≡ 2 ^ w) where
-      pub finish-even : w % 2 ≡ 0 → Spread n target b n (λ a l. entryIn (ended s last a l)) table new
+      pub finish-even : w % 2 ≡ 0 → Spread n target b n (λ a l. entryIn (afterLast s last a l)) table new
           → (next : ℕ → ℕ) → Keeps next keep → Ended next w b target (front w s d) table new
       finish-even even S next K = rw (eq-eqb (w % 2) 0 even) (finish-done target n e S next K)
 
-      pub finish-odd : (w % 2 ≡ 0 → ⊥) → Spread n target b n (λ a l. entryIn (ended d last a l)) table new
+      pub finish-odd : (w % 2 ≡ 0 → ⊥) → Spread n target b n (λ a l. entryIn (afterLast d last a l)) table new
           → (next : ℕ → ℕ) → Keeps next keep → Ended next w b target (front w s d) table new
       finish-odd odd S next K = rw (ne-eqb (w % 2) 0 odd) (finish-done target n e S next K)
 

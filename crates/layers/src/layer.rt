@@ -15,7 +15,7 @@ ghost use Rattle.elimination.specs.Table.{fillEntries};
 ghost use Rattle.score_table.specs.Rows.{rowGain};
 ghost use Rattle.score_table.specs.ScoreTable.{kindFor};
 ghost use Rattle.score_table.specs.Inner.{Memory};
-ghost use Rattle.column_elimination.specs.Columns.{Keeps, scored, loaded, ended, entryIn, entryBy, front, Turned, Ended};
+ghost use Rattle.column_elimination.specs.Columns.{Keeps, scored, loaded, afterLast, entryIn, entryBy, front, Turned, Ended};
 ghost use Rattle.column_elimination.specs.Written.{Wrote, Spread};
 ghost use Rattle.layers.specs.Layers.{Gained, LayerLent};
 
@@ -215,7 +215,7 @@ fn write_all(
     b: usize,
 )
     requires { ⌜ (n ≤ 1024) × (b + 8 ≤ n) × (target + n * n ≤ length (now table)) ⌝ }
-    ensures { λ _. ⌜ Spread n target b n (λ a l. entryIn (ended (now (src .entry)) (now (last .entry)) a l)) (now (table .entry)) (now (table .exit)) ⌝ }
+    ensures { λ _. ⌜ Spread n target b n (λ a l. entryIn (afterLast (now (src .entry)) (now (last .entry)) a l)) (now (table .entry)) (now (table .exit)) ⌝ }
 {
     for a in 0..n {
         write_eight(src, last, a, table, target + a * n + b);
@@ -225,7 +225,7 @@ fn write_all(
 // The entries of eight rows b below one row a, from a place of the table on.
 fn write_eight(src: &[u16; VECTOR], last: &[u16; LAST_MASKS], a: usize, table: &mut [u16], o: usize)
     requires { ⌜ (a < 1024) × (o + 8 ≤ length (now table)) ⌝ }
-    ensures { λ _. ⌜ Wrote o 8 (λ l. entryIn (ended (now (src .entry)) (now (last .entry)) a l)) (now (table .entry)) (now (table .exit)) ⌝ }
+    ensures { λ _. ⌜ Wrote o 8 (λ l. entryIn (afterLast (now (src .entry)) (now (last .entry)) a l)) (now (table .entry)) (now (table .exit)) ⌝ }
 {
     let x = 32 * a;
     let m = 32 * (a % 4);

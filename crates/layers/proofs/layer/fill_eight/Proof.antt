@@ -7,7 +7,7 @@ use native.Mathlib.Nat.{mul-le-mul-right}
 use native.Mathlib.Omega.{arith}
 use lib.ListN.{length, getD}
 use borrow.Author.Needs.{needs}
-use Rattle.column_elimination.specs.Columns.{Keeps, Holds, start, front}
+use Rattle.column_elimination.specs.Columns.{Keeps, VectorHolds, startNumber, front}
 use Rattle.column_elimination.proofs.Layers.{eight-entries, start-most}
 use Rattle.layers.proofs.Layers.{rows-room, numbers-small, loaded-holds}
 use Rattle.layers.proofs.layer.fill_eight.Statement.{statement}
@@ -19,7 +19,7 @@ Inv-loop keep w n limit worth b source target table s₀ d₀ masks₀ last j₀
     (length s ≡ 32768) ×
     (length d ≡ 32768) ×
     (length masks ≡ 512) ×
-    ((next : ℕ → ℕ) → Keeps next keep → Holds next w b (λ l. start limit w (λ c. getD worth c 0) (λ c. getD table (source + b * n + l * 2 ^ w + c) 0)) j (front j s d))
+    ((next : ℕ → ℕ) → Keeps next keep → VectorHolds next w b (λ l. startNumber limit w (λ c. getD worth c 0) (λ c. getD table (source + b * n + l * 2 ^ w + c) 0)) j (front j s d))
 
 abbrev μ-loop : tie.MeasureT-loop
 μ-loop keep w n limit worth b source target table s₀ d₀ masks₀ last j₀ s d masks j = w - j

@@ -4,7 +4,7 @@ use mathlib.Core.Path.{_≡_, refl, _∙_}
 use Prim.Native.Nat.{_+_, _*_, _-_, _≤_}
 use native.Mathlib.Omega.{arith}
 use lib.ListN.{length}
-use Rattle.column_elimination.specs.Columns.{ended, entryIn}
+use Rattle.column_elimination.specs.Columns.{afterLast, entryIn}
 use Rattle.column_elimination.specs.Written.{Spread}
 use Rattle.column_elimination.proofs.Writing.{spread-none, spread-more}
 use borrow.Author.Needs.{needs}
@@ -13,7 +13,7 @@ use Rattle.layers.proofs.layer.write_all.Statement.{statement}
 use Rattle.layers.proofs.layer.write_all.Tie as tie
 
 abbrev Inv-loop : tie.InvT-loop
-Inv-loop src last n table₀ target b a₀ table a = (a ≤ n) × (length table ≡ length table₀) × Spread n target b a (λ x l. entryIn (ended src last x l)) table₀ table
+Inv-loop src last n table₀ target b a₀ table a = (a ≤ n) × (length table ≡ length table₀) × Spread n target b a (λ x l. entryIn (afterLast src last x l)) table₀ table
 
 abbrev μ-loop : tie.MeasureT-loop
 μ-loop src last n table₀ target b a₀ table a = n - a

@@ -4,7 +4,7 @@ use mathlib.Core.Path.{_≡_, refl}
 use Prim.Native.Nat.{_+_, _-_, _≤_}
 use native.Mathlib.Omega.{arith}
 use lib.ListN.{length, length-set}
-use Rattle.column_elimination.specs.Columns.{ended, entryIn}
+use Rattle.column_elimination.specs.Columns.{afterLast, entryIn}
 use Rattle.column_elimination.specs.Written.{Wrote}
 use Rattle.column_elimination.proofs.Writing.{wrote-none, wrote-more}
 use borrow.Author.Needs.{needs}
@@ -12,7 +12,7 @@ use Rattle.layers.proofs.layer.write_eight.Statement.{statement}
 use Rattle.layers.proofs.layer.write_eight.Tie as tie
 
 abbrev Inv-loop : tie.InvT-loop
-Inv-loop src last a table₀ o x m l₀ table l = (l ≤ 8) × (o + 8 ≤ length table) × Wrote o l (λ y. entryIn (ended src last a y)) table₀ table
+Inv-loop src last a table₀ o x m l₀ table l = (l ≤ 8) × (o + 8 ≤ length table) × Wrote o l (λ y. entryIn (afterLast src last a y)) table₀ table
 
 abbrev μ-loop : tie.MeasureT-loop
 μ-loop src last a table₀ o x m l₀ table l = 8 - l
@@ -144,7 +144,7 @@ loop-less : tie.Need-loop-less Inv-loop μ-loop
 loop-less c = search needs
 
 loop-again : tie.Need-loop-again Inv-loop μ-loop
-unfolding ended
+unfolding afterLast
 loop-again c = (search needs, simp length-set (c .before .before .before .before .before .before .before .before .before .before .before .before .before .loop .inv .1), wrote-more (c .before .before .before .before .before .before .before .before .before .before .before .before .before .loop .inv .2) _ refl _ (rw (c .entry-of .ensures, c .before .top3 .ensures, c .before .before .top2 .ensures, c .before .before .before .before .before .before .before .top .ensures)))
 
 same-length : tie.Need-same-length Inv-loop μ-loop
