@@ -1,0 +1,1 @@
+// The eight rotations and reflections of a grid: definitions in specs/, laws in proofs/, no code.

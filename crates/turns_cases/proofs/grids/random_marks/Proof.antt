@@ -1,0 +1,59 @@
+-- `turns_cases::grids::random_marks` is safe and ends: the place rises to the last.
+-- Assumes nothing.
+use Prim.Native.Nat.{_-_, _≤_}
+use borrow.Author.Needs.{needs}
+use Rattle.turns_cases.proofs.grids.random_marks.Statement.{statement}
+use Rattle.turns_cases.proofs.grids.random_marks.Tie as tie
+
+abbrev Inv-loop : tie.InvT-loop
+Inv-loop w h density seed next₀ end k₀ next k = (k ≤ end) × (end ≤ 32)
+
+abbrev μ-loop : tie.MeasureT-loop
+μ-loop w h density seed next₀ end k₀ next k = end - k
+
+blank-requires : tie.Need-blank-requires Inv-loop μ-loop
+blank-requires c κs = search needs
+
+count-requires : tie.Need-count-requires Inv-loop μ-loop
+count-requires c κs = search needs
+
+loop-holds : tie.Need-loop-holds Inv-loop μ-loop
+loop-holds c = search needs
+
+below-requires : tie.Need-below-requires Inv-loop μ-loop
+below-requires c κs = search needs
+
+random-mark-requires : tie.Need-random-mark-requires Inv-loop μ-loop
+random-mark-requires c κs = search needs
+
+element-write-next : tie.Need-element-write-next Inv-loop μ-loop
+element-write-next c = search needs
+
+add-k : tie.Need-add-k Inv-loop μ-loop
+add-k c = search needs
+
+loop-less : tie.Need-loop-less Inv-loop μ-loop
+loop-less c = search needs
+
+loop-again : tie.Need-loop-again Inv-loop μ-loop
+loop-again c = search needs
+
+returns : tie.Need-returns Inv-loop μ-loop
+returns c = search needs
+
+pub random-marks-spec : {M : Type 1} → statement M
+random-marks-spec =
+    tie.close
+    (tie.spec
+    Inv-loop
+    μ-loop
+    blank-requires
+    count-requires
+    loop-holds
+    below-requires
+    random-mark-requires
+    element-write-next
+    add-k
+    loop-less
+    loop-again
+    returns)
