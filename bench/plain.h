@@ -3,7 +3,7 @@
 #include <stdint.h>
 
 // Answers that are no score, the same as solver_c's.
-enum { UNFINISHED = 1001, NO_BOARD = 1002 };
+enum { UNFINISHED = 2001, NO_BOARD = 2002 };
 
 // Fills the layer that has so many rows after it, over the one with a row less, which is filled.
 void plain_layer(size_t w, size_t h, const uint8_t *givens, size_t after, uint16_t *table);

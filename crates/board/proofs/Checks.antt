@@ -1,37 +1,53 @@
 -- The checks pass exactly for the sizes, boards and grids of givens; and which numbers they answer.
 -- Assumes nothing.
 use mathlib.Core.Path.{_≡_}
+use mathlib.Core.Bool.{Bool, false}
 use mathlib.Core.Option.{Option, none, some}
 use mathlib.Core.List.{List}
 use Prim.Native.Nat.{ℕ, _*_, _<_, _≤_}
 use native.Mathlib.Omega.{arith}
 use borrow.Author.Tests.{eqb-true, leb-true, eq-eqb, le-leb}
-use lib.Dec.{eqb}
+use lib.Dec.{eqb, leb}
 use lib.ListN.{length, getD}
 use Rattle.board.specs.Search.{firstNot}
-use Rattle.board.specs.Answers.{gives, passed, _then_, Checked}
-use Rattle.board.specs.Boards.{among, maxWidth, maxHeight, Sized, Bytes, Board}
-use Rattle.board.specs.Checks.{lengthCheck, bytesCheck, widthCheck, heightCheck, sizeCheck, cellsCheck, givensCheck, boardCheck, atMost, ChecksRight}
-use Rattle.board.proofs.Tests.{among-yes, among-in}
+use Rattle.board.specs.Answers.{gives, passed, _then_, refuseUnless, Checked}
+use Rattle.board.specs.Boards.{among, maxHeight, widthFits, isWidth, Sized, SizedBy, Bytes, Board}
+use Rattle.board.specs.Checks.{lengthCheck, bytesCheck, heightCheck, sizeCheck, cellsCheck, givensCheck, boardCheck, atMost, ChecksRight}
+use Rattle.board.proofs.Tests.{and-left, and-right, and-true, among-yes, among-in}
+use Rattle.board.proofs.Widths.{width-of, width-fits, size-by, by-size}
 use Rattle.board.proofs.Answers.{then-gives, unless-gives, at-gives, checked-then, checked-unless, checked-at}
 use Rattle.board.proofs.Search.{Searched, searched, all-pass, fails-at, none-of}
 
 -- ---- the size
-pub sized : (w h : ℕ) {vs : List ℕ} → sizeCheck w h ≡ gives vs → Sized w h
-unfolding sizeCheck
-sized w h e =
-    let p = then-gives (widthCheck w) (heightCheck h) e in
-    let a = among-in maxWidth w (unless-gives (among maxWidth w) 1 (p .0 .1)) in
-    let b = among-in maxHeight h (unless-gives (among maxHeight h) 2 (p .1)) in
-    record { some-column = a .0; narrow = a .1; some-row = b .0; low = b .1 }
+module _ (halves : Bool) where
+  pub sized-by : (w h : ℕ) {vs : List ℕ} → sizeCheck halves w h ≡ gives vs → SizedBy halves w h
+  unfolding sizeCheck
+  sized-by w h e =
+      let p = then-gives (refuseUnless (isWidth halves w) 1) (heightCheck h) e in
+      let a = unless-gives (isWidth halves w) 1 (p .0 .1) in
+      let b = among-in maxHeight h (unless-gives (among maxHeight h) 2 (p .1)) in record {
+        some-column = leb-true 1 w (and-left (leb 1 w) (widthFits halves w) a);
+        width = width-of halves w (and-right (leb 1 w) (widthFits halves w) a);
+        some-row = b .0;
+        low = b .1;
+      }
 
-pub size-passes : {w h : ℕ} → Sized w h → sizeCheck w h ≡ passed
-unfolding sizeCheck
-size-passes {w} {h} s = rw (among-yes maxWidth w (s .some-column) (s .narrow), among-yes maxHeight h (s .some-row) (s .low))
+  pub size-passes-by : {w h : ℕ} → SizedBy halves w h → sizeCheck halves w h ≡ passed
+  unfolding sizeCheck
+  size-passes-by {w} {h} s =
+      rw (and-true (le-leb 1 w (s .some-column)) (width-fits halves w (s .width)), among-yes maxHeight h (s .some-row) (s .low))
 
-pub size-checked : (n w h : ℕ) → (1 ≡ n → ⊥) → (2 ≡ n → ⊥) → Checked n (sizeCheck w h)
-unfolding sizeCheck
-size-checked n w h p q = checked-then n (widthCheck w) (heightCheck h) (checked-unless n (among maxWidth w) 1 p) (checked-unless n (among maxHeight h) 2 q)
+  pub size-checked : (n w h : ℕ) → (1 ≡ n → ⊥) → (2 ≡ n → ⊥) → Checked n (sizeCheck halves w h)
+  unfolding sizeCheck
+  size-checked n w h p q =
+      checked-then n (refuseUnless (isWidth halves w) 1) (heightCheck h) (checked-unless n (isWidth halves w) 1 p) (checked-unless n (among maxHeight h) 2 q)
+
+-- of a row's number with a digit for each cell
+pub sized : (w h : ℕ) {vs : List ℕ} → sizeCheck false w h ≡ gives vs → Sized w h
+sized w h e = by-size (sized-by false w h e)
+
+pub size-passes : {w h : ℕ} → Sized w h → sizeCheck false w h ≡ passed
+size-passes s = size-passes-by false (size-by s)
 
 -- ---- the bytes: their length, then each of them
 module _ (n m most w h : ℕ) (bytes : List ℕ) where
@@ -61,7 +77,7 @@ cells-pass {w} {h} {cells} b = bytes-pass 5 11 1 w h cells b
 pub boarded : (w h : ℕ) (cells : List ℕ) {vs : List ℕ} → boardCheck w h cells ≡ gives vs → Board w h cells
 unfolding boardCheck
 boarded w h cells e =
-    let p = then-gives (sizeCheck w h) (cellsCheck w h cells) e in
+    let p = then-gives (sizeCheck false w h) (cellsCheck w h cells) e in
     record { size = sized w h (p .0 .1); bytes = cells-of w h cells (p .1) }
 
 pub board-passes : {w h : ℕ} {cells : List ℕ} → Board w h cells → boardCheck w h cells ≡ passed
@@ -85,9 +101,10 @@ givens-checked n w h marks p q =
 pub checks-right : ChecksRight
 checks-right = (
   λ w h. (sized w h, size-passes),
+  λ halves w h. (sized-by halves w h, size-passes-by halves),
   λ w h cells. (boarded w h cells, board-passes),
   λ w h marks. (
-    λ e. let p = then-gives (sizeCheck w h) (givensCheck w h marks) e in record { size = sized w h (p .0 .1); bytes = marks-of w h marks (p .1) },
+    λ e. let p = then-gives (sizeCheck false w h) (givensCheck w h marks) e in record { size = sized w h (p .0 .1); bytes = marks-of w h marks (p .1) },
     λ g. rw (size-passes (g .size)) (marks-pass (g .bytes)),
   ),
 )

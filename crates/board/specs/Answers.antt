@@ -6,7 +6,7 @@ use mathlib.Core.Option.{Option, none, some}
 use mathlib.Core.List.{List, [], _∷_}
 use Prim.Native.Nat.{ℕ}
 use Rattle.board.specs.declared.Refusal.{Refusal}
-use Rattle.board.specs.declared.Refusal.the-variants.{Width, Height, GivensLength, Mark, BoardLength, ShortTable, Checkpoint, Letter, SpoiledTable, ShortOutput, Cell, LongText, Rule, EdgeThree}
+use Rattle.board.specs.declared.Refusal.the-variants.{Width, Height, GivensLength, Mark, BoardLength, ShortTable, Checkpoint, Letter, SpoiledTable, ShortOutput, Cell, LongText, Rule, EdgeThree, Lopsided}
 use Rattle.board.specs.declared.Check.{Check}
 use Rattle.board.specs.declared.Check.the-variants.{Passed, Refused}
 use Rattle.board.specs.declared.Place.{Place}
@@ -19,7 +19,7 @@ pub data Answer : Type 0 where
 
 -- ---- the table of refusals
 -- a refusal's number. The paper's words are Width, Height, Grid length, Mark, Board length, Short table, Ticket (`Checkpoint`), Letter,
--- Spoiled table, Short output, Cell, Long text, Req 02's Rule and Req 04's Edge three
+-- Spoiled table, Short output, Cell, Long text, Req 02's Rule, Req 04's Edge three and Req 06's Lopsided
 abbrev pub numberOf : Refusal → ℕ
 numberOf Width = 1
 numberOf Height = 2
@@ -35,8 +35,9 @@ numberOf (Cell place) = 11
 numberOf LongText = 12
 numberOf Rule = 13
 numberOf (EdgeThree place) = 14
+numberOf (Lopsided place) = 15
 
--- and its values: the first place, from 0, of a mark, a letter, a cell or the middle of an edge three
+-- and its values: the first place, from 0, of a mark, a letter, a cell, the middle of an edge three or a mark that differs from its reflection
 abbrev pub valuesOf : Refusal → List ℕ
 valuesOf Width = []
 valuesOf Height = []
@@ -52,6 +53,7 @@ valuesOf (Cell place) = place ∷ []
 valuesOf LongText = []
 valuesOf Rule = []
 valuesOf (EdgeThree place) = place ∷ []
+valuesOf (Lopsided place) = place ∷ []
 
 abbrev pub refusalSays : Refusal → Answer
 refusalSays r = refuses (numberOf r) (valuesOf r)

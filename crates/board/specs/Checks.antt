@@ -2,14 +2,14 @@
 -- Assumes nothing.
 use mathlib.Core.Path.{_≡_}
 use mathlib.Core.Logic.{_↔_}
-use mathlib.Core.Bool.{Bool, cond, _&&_}
+use mathlib.Core.Bool.{Bool, false, cond, _&&_}
 use mathlib.Core.List.{List}
 use Prim.Native.Nat.{ℕ, _*_, _^_}
 use lib.Dec.{eqb, leb}
 use lib.ListN.{length, getD}
 use Rattle.board.specs.Search.{firstNot}
 use Rattle.board.specs.Answers.{Answer, _then_, passed, refuseUnless, refuseAt}
-use Rattle.board.specs.Boards.{among, maxWidth, maxHeight, Sized, Board, Givens}
+use Rattle.board.specs.Boards.{among, maxWidth, maxHeight, isWidth, Sized, SizedBy, Board, Givens}
 
 -- 1, Width: w is 0 or above 10
 abbrev pub widthCheck : ℕ → Answer
@@ -43,9 +43,9 @@ tableSizeWithin w h = cond (leb w maxWidth && leb h maxHeight) (tableSize w h) 0
 abbrev pub tableCheck : ℕ → ℕ → List ℕ → Answer
 tableCheck w h table = refuseUnless (leb (tableSize w h) (length table)) 6
 
--- 1, 2
-unfoldable pub sizeCheck : ℕ → ℕ → Answer
-sizeCheck w h = widthCheck w then heightCheck h
+-- 1, 2 by how rows are held: where they are held as their left halves, 1 is an odd width, 0 or above 20
+unfoldable pub sizeCheck : Bool → ℕ → ℕ → Answer
+sizeCheck halves w h = refuseUnless (isWidth halves w) 1 then heightCheck h
 
 -- 5, 11
 unfoldable pub cellsCheck : ℕ → ℕ → List ℕ → Answer
@@ -57,11 +57,12 @@ givensCheck w h marks = lengthCheck 3 w h marks then bytesCheck 4 2 marks
 
 -- text out begins with 1, 2, 5, 11
 unfoldable pub boardCheck : ℕ → ℕ → List ℕ → Answer
-boardCheck w h cells = sizeCheck w h then cellsCheck w h cells
+boardCheck w h cells = sizeCheck false w h then cellsCheck w h cells
 
 -- the checks turn away exactly what is no size, no board, no grid of givens
 abbrev pub ChecksRight : Type 0
 ChecksRight =
-    ((w h : ℕ) → sizeCheck w h ≡ passed ↔ Sized w h) ×
+    ((w h : ℕ) → sizeCheck false w h ≡ passed ↔ Sized w h) ×
+    ((halves : Bool) (w h : ℕ) → sizeCheck halves w h ≡ passed ↔ SizedBy halves w h) ×
     ((w h : ℕ) (cells : List ℕ) → boardCheck w h cells ≡ passed ↔ Board w h cells) ×
-    ((w h : ℕ) (marks : List ℕ) → (sizeCheck w h then givensCheck w h marks) ≡ passed ↔ Givens w h marks)
+    ((w h : ℕ) (marks : List ℕ) → (sizeCheck false w h then givensCheck w h marks) ≡ passed ↔ Givens w h marks)

@@ -4,7 +4,7 @@ ghost use Prim.Native.Nat.{_*_};
 ghost use lib.Dec.{eqb};
 ghost use lib.ListN.{length};
 ghost use Rattle.board.specs.Answers.{numberOf, checkSays, placeOf};
-ghost use Rattle.board.specs.Boards.{among};
+ghost use Rattle.board.specs.Boards.{among, rowDigits, widthFits, byteAt};
 ghost use Rattle.board.specs.Checks.{widthCheck, heightCheck, sizeCheck, cellsCheck, boardCheck, givensCheck, atMost, tableSizeWithin, tableCheck};
 ghost use Rattle.board.specs.Search.{firstNot};
 
@@ -24,6 +24,7 @@ pub enum Refusal {
     LongText,
     Rule,
     EdgeThree(usize),
+    Lopsided(usize),
 }
 
 // What a check comes to.
@@ -33,7 +34,7 @@ pub enum Check {
 }
 
 impl Refusal {
-    // The number of document 01's table; 13 is Req 02's, 14 Req 04's.
+    // The number of document 01's table; 13 is Req 02's, 14 Req 04's, 15 Req 06's.
     pub fn number(self) -> u8
         ensures { λ r. ⌜ r ≡ numberOf self ⌝ }
     {
@@ -52,6 +53,7 @@ impl Refusal {
             Refusal::LongText => 12,
             Refusal::Rule => 13,
             Refusal::EdgeThree(_) => 14,
+            Refusal::Lopsided(_) => 15,
         }
     }
 }
@@ -60,6 +62,9 @@ impl Refusal {
 pub const MAX_WIDTH: usize = 10;
 
 pub const MAX_HEIGHT: usize = 60;
+
+// The most columns where rows are held as their left halves.
+pub const MAX_MIRROR_WIDTH: usize = 2 * MAX_WIDTH;
 
 // 1: width 1 to 10.
 pub fn check_width(w: usize) -> Check
@@ -83,14 +88,37 @@ pub fn check_height(h: usize) -> Check
     }
 }
 
-// 1, 2: width, then height.
-pub fn check_size(w: usize, h: usize) -> Check
-    ensures { λ r. ⌜ checkSays r ≡ sizeCheck w h ⌝ }
+// 1, 2 by how rows are held: width, 1 to 10, or even and 2 to 20 where they are held as their left halves; then height.
+pub fn check_size(halves: bool, w: usize, h: usize) -> Check
+    ensures { λ r. ⌜ checkSays r ≡ sizeCheck halves w h ⌝ }
 {
-    if let Check::Refused(r) = check_width(w) {
-        return Check::Refused(r);
+    if w < 1 {
+        return Check::Refused(Refusal::Width);
+    }
+    if !width_fits(halves, w) {
+        return Check::Refused(Refusal::Width);
     }
     check_height(h)
+}
+
+// Whether a width is at most 10; where rows are held as their left halves, whether it is even and at most 20.
+pub fn width_fits(halves: bool, w: usize) -> bool
+    ensures { λ r. ⌜ r ≡ widthFits halves w ⌝ }
+{
+    if !halves {
+        return w <= MAX_WIDTH;
+    }
+    if w % 2 != 0 {
+        return false;
+    }
+    w <= MAX_MIRROR_WIDTH
+}
+
+// The binary digits of the number of a row of w cells; a row may be held as its left half.
+pub fn row_digits(halves: bool, w: usize) -> usize
+    ensures { λ r. ⌜ r ≡ rowDigits halves w ⌝ }
+{
+    if halves { w / 2 } else { w }
 }
 
 // 5, 11: w × h cells, each 0 or 1.
@@ -110,7 +138,7 @@ pub fn check_cells(w: usize, h: usize, cells: &[u8]) -> Check
 pub fn check_board(w: usize, h: usize, cells: &[u8]) -> Check
     ensures { λ r. ⌜ checkSays r ≡ boardCheck w h (now (cells .entry)) ⌝ }
 {
-    if let Check::Refused(r) = check_size(w, h) {
+    if let Check::Refused(r) = check_size(false, w, h) {
         return Check::Refused(r);
     }
     check_cells(w, h, cells)
@@ -171,6 +199,32 @@ pub fn has_length(bytes: &[u8], w: usize, h: usize) -> bool
         return false;
     }
     n / w == h
+}
+
+// The byte in row r and column c, both from 1; 0 outside the rows and columns, and past the bytes: its place is never formed.
+pub fn byte_at(bytes: &[u8], w: usize, h: usize, r: usize, c: usize) -> u8
+    ensures { λ x. ⌜ x ≡ byteAt w h (now (bytes .entry)) r c ⌝ }
+{
+    if r < 1 {
+        return 0;
+    }
+    if h < r {
+        return 0;
+    }
+    if c < 1 {
+        return 0;
+    }
+    if w < c {
+        return 0;
+    }
+    let n = bytes.len();
+    if n < c {
+        return 0;
+    }
+    if (n - c) / w < r - 1 {
+        return 0;
+    }
+    bytes[(r - 1) * w + (c - 1)]
 }
 
 // Whether a number is one of 1 to a limit.

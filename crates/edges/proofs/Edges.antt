@@ -1,6 +1,6 @@
 -- Laws of cells given live and of edge threes: where such a cell stands, and the three cells of an edge three.
 -- Assumes nothing.
-use mathlib.Core.Path.{_≡_, refl, ap}
+use mathlib.Core.Path.{_≡_, refl}
 use mathlib.Core.Bool.{Bool, true, false, cond, _&&_, _||_}
 use mathlib.Core.List.{List}
 use mathlib.Core.Logic.{_⊎_, inl, inr, ⊎-elim}
@@ -14,7 +14,7 @@ use lib.Arith.{digits-lt, digits-div, digits-mod}
 use lib.Dec.{eqb}
 use lib.ListN.{length, getD, List·getD-eq-default}
 use Rattle.board.specs.Boards.{among}
-use Rattle.board.proofs.Tests.{and-left, and-right, or-true, among-in, byte-at}
+use Rattle.board.proofs.Tests.{and-left, and-right, or-true, among-in}
 use Rattle.edges.specs.Edges.{givenLiveAt, atEdge, alongRow, alongColumn, edgeThree, edgeThreeAt}
 
 pub one-less : (n : ℕ) → n + 1 - 1 ≡ n
@@ -41,18 +41,6 @@ module _ (w h : ℕ) (g : List ℕ) where
             record { some-row = a .0; high = a .1; some-column = b .0; wide = b .1; mark = m }
         go true false p q m = absurd (omega arith)
         go false t p q m = absurd (omega arith)
-
-    -- a cell that doesn't stand so isn't, and one of the grid is by its mark
-    pub not-live : (GivenLive w h g r c → ⊥) → givenLiveAt w h g r c ≡ false
-    not-live n = go (givenLiveAt w h g r c) refl
-      where
-        go : (t : Bool) → givenLiveAt w h g r c ≡ t → t ≡ false
-        go false e = refl
-        go true e = absurd (n (live-of e))
-
-    pub live-marked : 0 < r → r ≤ h → 0 < c → c ≤ w → givenLiveAt w h g r c ≡ eqb (getD g ((r - 1) * w + (c - 1)) 0) 2
-    unfolding givenLiveAt
-    live-marked p q s t = ap (λ (x : ℕ). eqb x 2) (byte-at w h g r c p q s t)
 
     -- the middle of an edge three is given live
     pub middle-live : edgeThree w h g r c ≡ true → GivenLive w h g r c

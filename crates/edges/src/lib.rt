@@ -77,28 +77,9 @@ fn is_edge(n: usize, i: usize) -> bool
     i == n
 }
 
-// Whether the cell in row r and column c, both from 1, is given live. No cell outside the grid is, and none past the givens: its place is never formed.
+// Whether the cell in row r and column c, both from 1, is given live. No cell outside the grid is, and none past the givens.
 fn is_given_live(w: usize, h: usize, givens: &[u8], r: usize, c: usize) -> bool
     ensures { λ t. ⌜ t ≡ givenLiveAt w h (now (givens .entry)) r c ⌝ }
 {
-    if r < 1 {
-        return false;
-    }
-    if h < r {
-        return false;
-    }
-    if c < 1 {
-        return false;
-    }
-    if w < c {
-        return false;
-    }
-    let n = givens.len();
-    if n < c {
-        return false;
-    }
-    if (n - c) / w < r - 1 {
-        return false;
-    }
-    givens[(r - 1) * w + (c - 1)] == 2
+    board::byte_at(givens, w, h, r, c) == 2
 }

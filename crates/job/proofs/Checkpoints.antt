@@ -10,7 +10,7 @@ use native.Mathlib.Decide.{decLt}
 use lib.Pow.{pow-pos}
 use Rattle.board.proofs.Tests.{and-true}
 use Rattle.board.specs.Answers.{refuses, refuseUnless, _then_}
-use Rattle.board.specs.Boards.{maxWidth, maxHeight, among}
+use Rattle.board.specs.Boards.{maxHeight, among, isWidth}
 use Rattle.board.specs.Checks.{sizeCheck}
 use Rattle.elimination.specs.Task.{isFill}
 use Rattle.elimination.specs.Shape.{Shape, rowsChosen}
@@ -18,16 +18,16 @@ use Rattle.elimination.proofs.Shape.{Rows, Units, runs, ends, fails}
 use Rattle.elimination.proofs.Rounds.{chosen-most}
 use Rattle.rule.specs.Rule.{ruleFits, ruleCheck, gridCheck}
 use Rattle.rule.specs.declared.Rule.{Rule}
-use Rattle.job.specs.Jobs.{shapeOf, checkpointFits, numbersOf, stageFits, jobFits, stageOf, jobOf, jobSays, checkpointSays}
+use Rattle.job.specs.Jobs.{halvesOf, shapeOf, checkpointFits, numbersOf, stageFits, jobFits, stageOf, jobOf, jobSays, checkpointSays}
 use Rattle.job.specs.declared.Kind.{Kind}
 use Rattle.job.specs.declared.Checkpoint.{Checkpoint}
 use Rattle.job.proofs.Shapes.{shape-lawful, shape-rounds}
 use Rattle.job.proofs.Fits.{NumbersFit, numbers-at, heard}
 
 -- ---- the size and the rule
-pub frame-misfits : (rule : Rule) (w h : ℕ) {n : ℕ} {vs : List ℕ} → gridCheck rule w h ≡ refuses n vs → among maxWidth w && among maxHeight h && ruleFits rule ≡ false
+pub frame-misfits : (kind : Kind) (rule : Rule) (w h : ℕ) {n : ℕ} {vs : List ℕ} → gridCheck (halvesOf kind) rule w h ≡ refuses n vs → isWidth (halvesOf kind) w && among maxHeight h && ruleFits rule ≡ false
 unfolding gridCheck sizeCheck ruleCheck
-frame-misfits rule w h {n} {vs} e = go (among maxWidth w) (among maxHeight h) (ruleFits rule) e
+frame-misfits kind rule w h {n} {vs} e = go (isWidth (halvesOf kind) w) (among maxHeight h) (ruleFits rule) e
   where
     go : (s t u : Bool) → ((refuseUnless s 1 then refuseUnless t 2) then refuseUnless u 13) ≡ refuses n vs → s && t && u ≡ false
     go true true true q = absurd (let z : _≡_ {A = ℕ} 0 1 = cc in omega arith)

@@ -5,22 +5,23 @@ use mathlib.Core.Bool.{Bool, true, false, _&&_}
 use mathlib.Core.List.{List, []}
 use Prim.Native.Nat.{ℕ}
 use native.Mathlib.Omega.{arith}
-use borrow.Author.Tests.{not-true, eq-eqb, eqb-true}
-use lib.Dec.{eqb}
+use borrow.Author.Tests.{not-true, eq-eqb, eqb-true, le-leb, leb-true}
+use lib.Dec.{eqb, leb}
 use lib.ListN.{getD}
 use lib.Pow.{pow-pos}
-use Rattle.board.specs.Answers.{Answer, gives, refuses, refuseUnless}
-use Rattle.board.specs.Boards.{maxWidth, maxHeight, among, Sized}
+use Rattle.board.specs.Answers.{Answer, gives, passed, refuses, refuseUnless}
+use Rattle.board.specs.Boards.{maxHeight, among, widthFits, isWidth, SizedBy}
 use Rattle.board.proofs.Answers.{refuses-none, then-gives, unless-gives}
+use Rattle.board.proofs.Widths.{width-of, width-fits}
 use Rattle.board.proofs.Tests.{and-left, and-right, and-true, among-yes, among-in}
 use Rattle.elimination.specs.Task.{isFill}
 use Rattle.elimination.specs.Shape.{numbersFit}
 use Rattle.elimination.proofs.Shape.{NumbersAre, numbers-start}
 use Rattle.elimination.proofs.Shape as Shapes
-use Rattle.rule.specs.Rule.{Allowed, ruleFits}
+use Rattle.rule.specs.Rule.{Allowed, ruleFits, gridCheck}
 use Rattle.rule.specs.declared.Rule.{Rule}
-use Rattle.rule.proofs.Rules.{fits-allowed, allowed-fits}
-use Rattle.job.specs.Jobs.{kindNumber, shapeOf, ruleOf, numbersIn, checkpointFits, numbersOf, checkpointSays, jobSays, stageFits, jobFits, stageOf, start, jobOf, pauseRule, resumeRule, pausedSays, jobResultSays}
+use Rattle.rule.proofs.Rules.{fits-allowed, allowed-fits, grid-allowed, grid-passes}
+use Rattle.job.specs.Jobs.{kindNumber, halvesOf, kindDigits, shapeOf, ruleOf, numbersIn, checkpointFits, numbersOf, checkpointSays, jobSays, stageFits, jobFits, stageOf, start, jobOf, pauseRule, resumeRule, pausedSays, jobResultSays}
 use Rattle.job.specs.Calls.{RoundTrip, Pausable}
 use Rattle.job.specs.declared.Kind.{Kind}
 use Rattle.job.specs.declared.Stage.{Stage}
@@ -30,22 +31,29 @@ use Rattle.job.specs.declared.JobResult.{JobResult}
 use Rattle.job.proofs.Shapes.{number-tells, shape-lawful, shorter, fills-first}
 
 -- ---- the ten numbers
--- a size and a rule that opening takes
-pub record Frame (rule : Rule) (w h : ℕ) : Type 0 where
-  pub size : Sized w h
+-- a size and a rule that opening as a kind takes
+pub record Frame (kind : Kind) (rule : Rule) (w h : ℕ) : Type 0 where
+  pub size : SizedBy (halvesOf kind) w h
   pub allowed : Allowed rule
 
-pub frame-fits : {rule : Rule} {w h : ℕ} → Frame rule w h → among maxWidth w && among maxHeight h && ruleFits rule ≡ true
-frame-fits {rule} {w} {h} z =
-    rw (among-yes maxWidth w (z .size .some-column) (z .size .narrow), among-yes maxHeight h (z .size .some-row) (z .size .low)) (allowed-fits rule (z .allowed))
+pub frame-fits : {kind : Kind} {rule : Rule} {w h : ℕ} → Frame kind rule w h → isWidth (halvesOf kind) w && among maxHeight h && ruleFits rule ≡ true
+frame-fits {kind} {rule} {w} {h} z =
+    rw (and-true (le-leb 1 w (z .size .some-column)) (width-fits (halvesOf kind) w (z .size .width)), among-yes maxHeight h (z .size .some-row) (z .size .low)) (allowed-fits rule (z .allowed))
+
+-- the checks of a size and a rule pass exactly where there is such a size and rule
+pub frame-of : (kind : Kind) (rule : Rule) (w h : ℕ) {vs : List ℕ} → gridCheck (halvesOf kind) rule w h ≡ gives vs → Frame kind rule w h
+frame-of kind rule w h e = let p = grid-allowed rule (halvesOf kind) w h e in record { size = p .0; allowed = p .1 }
+
+pub frame-passes : {kind : Kind} {rule : Rule} {w h : ℕ} → Frame kind rule w h → gridCheck (halvesOf kind) rule w h ≡ passed
+frame-passes {kind} {rule} z = grid-passes rule (halvesOf kind) (z .size) (z .allowed)
 
 pub record NumbersFit (kind : Kind) (t : Checkpoint) : Type 0 where
   pub of : t .kind ≡ kindNumber kind
-  pub frame : Frame (ruleOf t) (t .width) (t .height)
+  pub frame : Frame kind (ruleOf t) (t .width) (t .height)
   pub fit : numbersFit (shapeOf kind (t .width) (t .height)) (numbersIn t) ≡ true
   pub are : NumbersAre (shapeOf kind (t .width) (t .height)) (numbersIn t)
 
-pub numbers-of : (kind : Kind) (t : Checkpoint) → t .kind ≡ kindNumber kind → Frame (ruleOf t) (t .width) (t .height)
+pub numbers-of : (kind : Kind) (t : Checkpoint) → t .kind ≡ kindNumber kind → Frame kind (ruleOf t) (t .width) (t .height)
     → numbersFit (shapeOf kind (t .width) (t .height)) (numbersIn t) ≡ true → checkpointFits kind t ≡ true
 unfolding checkpointFits
 numbers-of kind t k z e = and-true (eq-eqb (t .kind) (kindNumber kind) k) (and-true (frame-fits z) e)
@@ -54,19 +62,24 @@ pub numbers-at : (kind : Kind) (t : Checkpoint) → checkpointFits kind t ≡ tr
 unfolding checkpointFits
 numbers-at kind t all =
     let k = eqb (t .kind) (kindNumber kind) in
-    let a = among maxWidth (t .width) in
+    let a = isWidth (halvesOf kind) (t .width) in
     let b = among maxHeight (t .height) in
     let q = ruleFits (ruleOf t) in
     let n = numbersFit (shapeOf kind (t .width) (t .height)) (numbersIn t) in
     let e = and-right k (a && b && q && n) all in
     let p3 = and-left (a && b && q) n e in
     let p2 = and-left (a && b) q p3 in
-    let wide = among-in maxWidth (t .width) (and-left a b p2) in
+    let wide = and-left a b p2 in
     let tall = among-in maxHeight (t .height) (and-right a b p2) in
     let f = and-right (a && b && q) n e in record {
       of = eqb-true (t .kind) (kindNumber kind) (and-left k (a && b && q && n) all);
       frame = record {
-        size = record { some-column = wide .0; narrow = wide .1; some-row = tall .0; low = tall .1 };
+        size = record {
+          some-column = leb-true 1 (t .width) (and-left (leb 1 (t .width)) (widthFits (halvesOf kind) (t .width)) wide);
+          width = width-of (halvesOf kind) (t .width) (and-right (leb 1 (t .width)) (widthFits (halvesOf kind) (t .width)) wide);
+          some-row = tall .0;
+          low = tall .1;
+        };
         allowed = fits-allowed (ruleOf t) (and-right (a && b) q p3);
       };
       fit = f;
@@ -86,17 +99,17 @@ unfolding jobFits
 fits-stage j e = and-right (checkpointFits (j .kind) (numbersOf j)) (stageFits (shapeOf (j .kind) (j .width) (j .height)) (j .units) (j .stage)) e
 
 -- it has a size and a rule
-pub fits-frame : (j : Job) → jobFits j ≡ true → Frame (j .rule) (j .width) (j .height)
+pub fits-frame : (j : Job) → jobFits j ≡ true → Frame (j .kind) (j .rule) (j .width) (j .height)
 fits-frame j e = numbers-at (j .kind) (numbersOf j) (fits-numbers j e) .frame
 
 -- an opened job fits
-pub start-fits : (kind : Kind) {rule : Rule} {w h : ℕ} → Frame rule w h → jobFits (start kind rule w h) ≡ true
+pub start-fits : (kind : Kind) {rule : Rule} {w h : ℕ} → Frame kind rule w h → jobFits (start kind rule w h) ≡ true
 unfolding jobFits
 start-fits kind {rule} {w} {h} z =
     let high = z .size .some-row in
     and-true
     (numbers-of kind (numbersOf (start kind rule w h)) refl z
-    (numbers-start (shapeOf kind w h) (shape-lawful w h kind high) (pow-pos w) (omega (arith, shorter kind w h high))))
+    (numbers-start (shapeOf kind w h) (shape-lawful w h kind high) (pow-pos (kindDigits kind w)) (omega (arith, shorter kind w h high))))
     (fills-first kind w h high)
 
 -- ---- pausing and resuming

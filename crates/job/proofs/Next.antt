@@ -9,14 +9,15 @@ use native.Mathlib.Numerals.{add-one}
 use native.Mathlib.Omega.{arith}
 use borrow.Author.Tests.{lt-ltb, le-ltb, le-leb, ltb-true, leb-true, eqb-true, eq-eqb, ne-eqb}
 use lib.Dec.{eqb, leb, ltb}
-use Rattle.board.specs.Boards.{maxWidth, maxHeight}
+use Rattle.board.specs.Boards.{maxHeight, widthFits, Width}
+use Rattle.board.proofs.Widths.{width-of, width-fits}
 use Rattle.board.proofs.Tests.{and-left, and-right}
 use Rattle.board.proofs.Search.{all-of, all-false}
 use Rattle.elimination.specs.Task.{Task, row, isFill}
 use Rattle.elimination.specs.Shape.{Shape, Numbers, afterEntry, afterEntries, afterRow, afterNone}
 use Rattle.elimination.specs.Rounds.{roundFill}
 use Rattle.elimination.proofs.Shape.{Units, runs, ends, fails}
-use Rattle.job.specs.Jobs.{boardLength, afterChoice, shapeOf, layerStart, aboveOf, lastOf, liveOf, markOf, numbersOf, numbersIn, jobFits, stageOf, jobOf, runsWithin, taskDue, numbersWith, jobWith, afterTask, afterUnit, fillsNext, afterFills}
+use Rattle.job.specs.Jobs.{halvesOf, kindDigits, boardLength, afterChoice, shapeOf, layerStart, aboveOf, lastOf, liveOf, markOf, numbersOf, numbersIn, jobFits, stageOf, jobOf, runsWithin, taskDue, numbersWith, jobWith, afterTask, afterUnit, fillsNext, afterFills}
 use Rattle.job.specs.Inner.{RoundIs}
 use Rattle.job.specs.declared.Kind.{Kind}
 use Rattle.job.specs.declared.shape.Round.{Round}
@@ -32,13 +33,13 @@ none-some e = cc
 
 -- ---- sizes
 -- the units of a job are few enough for one more
-pub units-few : (kind : Kind) {w h u : ℕ} → w ≤ maxWidth → h ≤ maxHeight → u < boardLength kind w h → u < 2 ^ 32
+pub units-few : (kind : Kind) {w h u : ℕ} → Width (halvesOf kind) w → h ≤ maxHeight → u < boardLength kind w h → u < 2 ^ 32
 units-few kind {w} {h} {u} a b l = omega (arith, length-le kind a b)
 
 -- ---- the task that is due
 -- what a task that is due says of its job
 pub record Due (j : Job) (o : Task) : Type 0 where
-  pub narrow : j .width ≤ maxWidth
+  pub width : Width (halvesOf (j .kind)) (j .width)
   pub low : j .height ≤ maxHeight
   pub running : markOf (j .stage) ≡ 0
   pub until : j .units < boardLength (j .kind) (j .width) (j .height)
@@ -55,23 +56,23 @@ module _ (j : Job) where
   abbrev next : Task
   next = shapeOf (j .kind) (j .width) (j .height) .plan (j .units)
 
-  pub runs-within : runsWithin j ≡ true → (j .width ≤ maxWidth) × (j .height ≤ maxHeight) × (markOf (j .stage) ≡ 0)
+  pub runs-within : runsWithin j ≡ true → Width (halvesOf (j .kind)) (j .width) × (j .height ≤ maxHeight) × (markOf (j .stage) ≡ 0)
   runs-within e =
-      let a = leb (j .width) maxWidth in
+      let a = widthFits (halvesOf (j .kind)) (j .width) in
       let b = leb (j .height) maxHeight in
       let m = eqb (markOf (j .stage)) 0 in
       let p = and-left (a && b) m e in
-      (leb-true (j .width) maxWidth (and-left a b p), leb-true (j .height) maxHeight (and-right a b p), eqb-true (markOf (j .stage)) 0 (and-right (a && b) m e))
+      (width-of (halvesOf (j .kind)) (j .width) (and-left a b p), leb-true (j .height) maxHeight (and-right a b p), eqb-true (markOf (j .stage)) 0 (and-right (a && b) m e))
 
-  runs-by : j .width ≤ maxWidth → j .height ≤ maxHeight → markOf (j .stage) ≡ 0 → runsWithin j ≡ true
-  runs-by a b m = rw (le-leb (j .width) maxWidth a, le-leb (j .height) maxHeight b, m)
+  runs-by : Width (halvesOf (j .kind)) (j .width) → j .height ≤ maxHeight → markOf (j .stage) ≡ 0 → runsWithin j ≡ true
+  runs-by a b m = rw (width-fits (halvesOf (j .kind)) (j .width) a, le-leb (j .height) maxHeight b, m)
 
   pub due-at : (o : Task) → taskDue j ≡ some o → Due j o
   unfolding taskDue
   due-at o e =
       let p = cond-some (runsWithin j && ltb (j .units) long) next o e in
       let w = runs-within (and-left (runsWithin j) (ltb (j .units) long) (p .0)) in record {
-        narrow = w .0;
+        width = w .0;
         low = w .1;
         running = w .2;
         until = ltb-true (j .units) long (and-right (runsWithin j) (ltb (j .units) long) (p .0));
@@ -87,7 +88,7 @@ module _ (j : Job) where
   unfolding taskDue
   due-never e = rw e
 
-  pub due-by : j .width ≤ maxWidth → j .height ≤ maxHeight → markOf (j .stage) ≡ 0 → j .units < long → taskDue j ≡ some next
+  pub due-by : Width (halvesOf (j .kind)) (j .width) → j .height ≤ maxHeight → markOf (j .stage) ≡ 0 → j .units < long → taskDue j ≡ some next
   due-by a b m l = due-while (runs-by a b m) ∙ rw (lt-ltb (j .units) long l)
 
   -- ---- the job after its task
@@ -103,7 +104,7 @@ module _ (j : Job) where
     pub after-fills : (x .left ≡ 0 → ⊥) → jobWith j (afterEntries 1 (numbersIn (numbersOf j))) ≡ afterUnit j chosen
     after-fills f =
         let F = fills-entry R f in
-        let d : taskDue j ≡ some (roundFill (j .height) (4 ^ j .width) (layerStart (j .kind) (j .width)) (x .place)) = due-while e ∙ rw (lt-ltb (j .units) long (F .1), F .2) in
+        let d : taskDue j ≡ some (roundFill (j .height) (4 ^ kindDigits (j .kind) (j .width)) (layerStart (j .kind) (j .width)) (x .place)) = due-while e ∙ rw (lt-ltb (j .units) long (F .1), F .2) in
         let one : jobWith j (afterEntries 1 (numbersIn (numbersOf j))) ≡ jobWith j (afterEntry (numbersIn (numbersOf j))) = rw (add-one (j .units)) in
         one ∙ sym (after-task d chosen)
 
@@ -174,10 +175,10 @@ stands-later S (suc r) j n = refl
 
 -- ---- a job that fits
 module _ (j : Job) (f : jobFits j ≡ true) where
-  pub fits-size : (j .width ≤ maxWidth) × (j .height ≤ maxHeight)
-  fits-size = let z = fits-frame j f .size in (z .narrow, z .low)
+  pub fits-size : Width (halvesOf (j .kind)) (j .width) × (j .height ≤ maxHeight)
+  fits-size = let z = fits-frame j f .size in (z .width, z .low)
 
-  pub fits-rows : (aboveOf (j .stage) < 2 ^ j .width) × (lastOf (j .stage) < 2 ^ j .width)
+  pub fits-rows : (aboveOf (j .stage) < 2 ^ kindDigits (j .kind) (j .width)) × (lastOf (j .stage) < 2 ^ kindDigits (j .kind) (j .width))
   fits-rows = let n = numbers-at (j .kind) (numbersOf j) (fits-numbers j f) .are in (n .over, n .below)
 
   pub fits-live : liveOf (j .stage) ≤ j .width * j .height
@@ -219,10 +220,10 @@ module _ (j : Job) (f : jobFits j ≡ true) where
     after-due : {o : Task} → shapeOf (j .kind) (j .width) (j .height) .plan (j .units) ≡ o → (chosen : Chosen) → afterUnit j chosen ≡ afterTask (some o) j chosen
     after-due p chosen = after-task j (due-running m ∙ ap some p) chosen
 
-    pub after-row : {r source : ℕ} → shapeOf (j .kind) (j .width) (j .height) .plan (j .units) ≡ row r source → (c x : ℕ) → c < 2 ^ j .width → x ≤ j .width
+    pub after-row : {r source : ℕ} → shapeOf (j .kind) (j .width) (j .height) .plan (j .units) ≡ row r source → (c x : ℕ) → c < 2 ^ kindDigits (j .kind) (j .width) → x ≤ j .width
         → afterUnit j (Chosen.Row c x) ≡ jobWith j (afterRow (j .height) r c (x + liveOf (j .stage)) (numbersIn (numbersOf j)))
     after-row p c x l b =
-        after-due p (Chosen.Row c x) ∙ rw (lt-ltb c (2 ^ j .width) l, le-leb x (j .width) b, le-leb (liveOf (j .stage)) (j .width * j .height) fits-live)
+        after-due p (Chosen.Row c x) ∙ rw (lt-ltb c (2 ^ kindDigits (j .kind) (j .width)) l, le-leb x (j .width) b, le-leb (liveOf (j .stage)) (j .width * j .height) fits-live)
 
     pub after-none : {source : ℕ} → shapeOf (j .kind) (j .width) (j .height) .plan (j .units) ≡ row 0 source
         → afterUnit j Chosen.Nothing ≡ jobWith j (afterNone (numbersIn (numbersOf j)))

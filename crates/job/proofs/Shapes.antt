@@ -2,7 +2,7 @@
 -- nowhere else by cases.
 -- Assumes nothing.
 use mathlib.Core.Path.{_≡_, refl, sym, _∙_, ap, ap₂, subst}
-use mathlib.Core.Bool.{Bool, true, false, not}
+use mathlib.Core.Bool.{Bool, true, false, cond, not}
 use mathlib.Core.Logic.{⊎-elim}
 use Prim.Native.Nat.{ℕ, zero, suc, _+_, _-_, _*_, _/_, _^_, _≤_, _<_}
 use native.Mathlib.Nat.{add-zero, mul-le-mul, mul-le-mul-left, mul-le-mul-right}
@@ -10,121 +10,160 @@ use native.Mathlib.Omega.{arith}
 use borrow.Author.Tests.{ltb-true, ltb-false, eqb-true, eqb-false, lt-ltb, le-ltb, eq-eqb, ne-eqb}
 use lib.Dec.{eqb, ltb}
 use lib.Pow.{pow-pos}
-use Rattle.board.specs.Boards.{maxWidth, maxHeight}
+use Rattle.board.specs.Boards.{maxHeight, Width}
 use Rattle.board.specs.Checks.{tableSize}
 use Rattle.board.proofs.Powers.{four-two, four-pos, four-le}
 use Rattle.elimination.specs.Task.{row, isFill}
 use Rattle.elimination.specs.Places.{Orderly}
 use Rattle.elimination.specs.FillThenChoose as Whole
 use Rattle.elimination.specs.TwoLayers as Two
-use Rattle.elimination.specs.Shape.{Shape, ShapeLaws, entriesFilled, whole, twoLayers}
+use Rattle.elimination.specs.Shape.{Shape, ShapeLaws, entriesFilled, chosenFrom, whole, twoLayers}
 use Rattle.elimination.specs.Rounds.{InRound, roundFill, Rounds}
 use Rattle.elimination.proofs.Numbers.{lt-or-ge}
 use Rattle.elimination.proofs.FillThenChoose as Wholes
 use Rattle.elimination.proofs.TwoLayers as Twos
 use Rattle.elimination.proofs.Shape.{units-split, whole-lawful, two-lawful}
 use Rattle.elimination.proofs.Rounds.{Does, fills, chooses, rests, does, until, fills-until, round-past, row-at, chosen-round, whole-rounds, two-rounds}
-use Rattle.job.specs.Jobs.{kindNumber, boardLength, noneLength, planOf, chosenIn, shapeOf, roundWork, layerStart, courseOf}
+use Rattle.job.specs.Jobs.{kindNumber, halvesOf, refills, kindDigits, boardLength, noneLength, planOf, chosenIn, shapeOf, roundWork, layerStart, courseOf}
 use Rattle.job.specs.Calls.{RowsAreChoosingUnits}
 use Rattle.job.specs.Inner.{RoundIs}
 use Rattle.job.specs.declared.Kind.{Kind}
 use Rattle.job.specs.declared.shape.Round.{Round}
 
 -- ---- the kind's number tells the kind
+abbrev kindAt : ℕ → Kind
+kindAt zero = Kind.Ordinary
+kindAt (suc zero) = Kind.TwoLayers
+kindAt (suc (suc n)) = Kind.Mirror
+
+kind-at : (kind : Kind) → kindAt (kindNumber kind) ≡ kind
+kind-at Kind.Ordinary = refl
+kind-at Kind.TwoLayers = refl
+kind-at Kind.Mirror = refl
+
 pub number-tells : (kind kind′ : Kind) → kindNumber kind ≡ kindNumber kind′ → kind ≡ kind′
-number-tells Kind.Ordinary Kind.Ordinary e = refl
-number-tells Kind.Ordinary Kind.TwoLayers e = absurd (omega arith)
-number-tells Kind.TwoLayers Kind.Ordinary e = absurd (omega arith)
-number-tells Kind.TwoLayers Kind.TwoLayers e = refl
+number-tells kind kind′ e = sym (kind-at kind) ∙ ap kindAt e ∙ kind-at kind′
 
--- ---- the shapes
-whole-is : (w h : ℕ) → whole (2 ^ w) h w ≡ shapeOf Kind.Ordinary w h
-unfolding tableSize
-whole-is w h = ap₂ with-layer (sym (four-two w)) (let q : h * (2 ^ w * 2 ^ w) ≡ h * 4 ^ w = ap (λ (x : ℕ). h * x) (sym (four-two w)) in omega (arith, q))
-  where
-    with-layer : ℕ → ℕ → Shape
-    with-layer q long = record {
-      codes = 2 ^ w;
-      entries = h * q;
-      rows = h;
-      plan = Whole.plan h (2 ^ w * 2 ^ w);
-      chosen = λ u. u - h * q;
-      boardLength = long;
-      noneLength = h * q + 1;
-      most = w;
-    }
+-- ---- the shapes, by whether two layers are filled again or the whole table once
+module _ (kind : Kind) (w h : ℕ) where
+  abbrev d : ℕ
+  d = kindDigits kind w
 
-two-is : (w h : ℕ) → twoLayers (2 ^ w) h w ≡ shapeOf Kind.TwoLayers w h
-unfolding tableSize
-two-is w h = rw (four-two w, Twos.two-lengths h (2 ^ w * 2 ^ w) .board)
+  whole-is : refills kind ≡ false → whole (2 ^ d) h w ≡ shapeOf kind w h
+  unfolding tableSize
+  whole-is t = rw t (ap₂ with-layer (sym (four-two d)) (let q : h * (2 ^ d * 2 ^ d) ≡ h * 4 ^ d = ap (λ (x : ℕ). h * x) (sym (four-two d)) in omega (arith, q)))
+    where
+      with-layer : ℕ → ℕ → Shape
+      with-layer q long = record {
+        codes = 2 ^ d;
+        entries = h * q;
+        rows = h;
+        plan = Whole.plan h (2 ^ d * 2 ^ d);
+        chosen = λ u. u - h * q;
+        boardLength = long;
+        noneLength = h * q + 1;
+        most = w;
+      }
 
-module _ (w h : ℕ) where
-  pub shape-lawful : (kind : Kind) → 0 < h → ShapeLaws (shapeOf kind w h)
-  shape-lawful Kind.Ordinary high = subst ShapeLaws (whole-is w h) (whole-lawful (2 ^ w) h w high)
-  shape-lawful Kind.TwoLayers high = subst ShapeLaws (two-is w h) (two-lawful (2 ^ w) h w (pow-pos w) high)
+  two-is : refills kind ≡ true → twoLayers (2 ^ d) h w ≡ shapeOf kind w h
+  unfolding tableSize
+  two-is t = rw (t, four-two d, Twos.two-lengths h (2 ^ d * 2 ^ d) .board)
 
-  pub shape-rounds : (kind : Kind) → Rounds (4 ^ w) (shapeOf kind w h) (courseOf kind w h)
-  shape-rounds Kind.Ordinary =
-      subst (λ (S : Shape). Rounds (4 ^ w) S (courseOf Kind.Ordinary w h)) (whole-is w h)
-      (subst (λ (q : ℕ). Rounds q (whole (2 ^ w) h w) (Whole.schedule h q)) (sym (four-two w)) (whole-rounds (2 ^ w) h w))
-  shape-rounds Kind.TwoLayers =
-      subst (λ (S : Shape). Rounds (4 ^ w) S (courseOf Kind.TwoLayers w h)) (two-is w h)
-      (subst (λ (q : ℕ). Rounds q (twoLayers (2 ^ w) h w) (Two.schedule h q)) (sym (four-two w)) (two-rounds (2 ^ w) h w (pow-pos w)))
+  whole-course : refills kind ≡ false → Whole.schedule h (4 ^ d) ≡ courseOf kind w h
+  whole-course t = rw t
 
-  some : 0 < 2 ^ w * 2 ^ w
-  some = mul-le-mul (pow-pos w) (pow-pos w)
+  two-course : refills kind ≡ true → Two.schedule h (4 ^ d) ≡ courseOf kind w h
+  two-course t = rw t
+
+  some : 0 < 2 ^ d * 2 ^ d
+  some = mul-le-mul (pow-pos d) (pow-pos d)
 
   abbrev InOrder : Shape → Type 0
   InOrder S = Orderly (S .codes) (S .rows) (S .entries) (S .boardLength) (S .plan)
 
-  pub shape-orderly : (kind : Kind) → InOrder (shapeOf kind w h)
-  shape-orderly Kind.Ordinary = subst InOrder (whole-is w h) (Wholes.orderly (2 ^ w) h some)
-  shape-orderly Kind.TwoLayers = subst InOrder (two-is w h) (Twos.orderly (2 ^ w) h some)
+  lawful-by : (two : Bool) → refills kind ≡ two → 0 < h → ShapeLaws (shapeOf kind w h)
+  lawful-by false t high = subst ShapeLaws (whole-is t) (whole-lawful (2 ^ d) h w high)
+  lawful-by true t high = subst ShapeLaws (two-is t) (two-lawful (2 ^ d) h w (pow-pos d) high)
+
+  rounds-by : (two : Bool) → refills kind ≡ two → Rounds (4 ^ d) (shapeOf kind w h) (courseOf kind w h)
+  rounds-by false t =
+      subst (λ (S : Shape). Rounds (4 ^ d) S (courseOf kind w h)) (whole-is t)
+      (subst (Rounds (4 ^ d) (whole (2 ^ d) h w)) (whole-course t) (subst (λ (q : ℕ). Rounds q (whole (2 ^ d) h w) (Whole.schedule h q)) (sym (four-two d)) (whole-rounds (2 ^ d) h w)))
+  rounds-by true t =
+      subst (λ (S : Shape). Rounds (4 ^ d) S (courseOf kind w h)) (two-is t)
+      (subst (Rounds (4 ^ d) (twoLayers (2 ^ d) h w)) (two-course t)
+      (subst (λ (q : ℕ). Rounds q (twoLayers (2 ^ d) h w) (Two.schedule h q)) (sym (four-two d)) (two-rounds (2 ^ d) h w (pow-pos d))))
+
+  orderly-by : (two : Bool) → refills kind ≡ two → InOrder (shapeOf kind w h)
+  orderly-by false t = subst InOrder (whole-is t) (Wholes.orderly (2 ^ d) h some)
+  orderly-by true t = subst InOrder (two-is t) (Twos.orderly (2 ^ d) h some)
+
+module _ (w h : ℕ) where
+  pub shape-lawful : (kind : Kind) → 0 < h → ShapeLaws (shapeOf kind w h)
+  shape-lawful kind = lawful-by kind w h (refills kind) refl
+
+  pub shape-rounds : (kind : Kind) → Rounds (4 ^ kindDigits kind w) (shapeOf kind w h) (courseOf kind w h)
+  shape-rounds kind = rounds-by kind w h (refills kind) refl
+
+  pub shape-orderly : (kind : Kind) → Orderly (shapeOf kind w h .codes) h (shapeOf kind w h .entries) (boardLength kind w h) (planOf kind w h)
+  shape-orderly kind = orderly-by kind w h (refills kind) refl
 
 -- ---- the entries of a round
-pub work-first : (w h r : ℕ) → r ≡ 0 → h * 4 ^ w ≡ roundWork Kind.Ordinary w h r
-work-first w h zero e = refl
-work-first w h (suc r) e = absurd (omega arith)
+module _ (kind : Kind) (w h r : ℕ) where
+  pub work-again : refills kind ≡ true → (h - r) * 4 ^ kindDigits kind w ≡ roundWork kind w h r
+  work-again t = rw t
 
-pub work-later : (w h r : ℕ) → (r ≡ 0 → ⊥) → 0 ≡ roundWork Kind.Ordinary w h r
-work-later w h zero n = absurd (n refl)
-work-later w h (suc r) n = refl
+  pub work-first : refills kind ≡ false → r ≡ 0 → h * 4 ^ kindDigits kind w ≡ roundWork kind w h r
+  work-first t e = rw (t, e)
+
+  pub work-later : refills kind ≡ false → (r ≡ 0 → ⊥) → 0 ≡ roundWork kind w h r
+  work-later t n = rw t (go r n)
+    where
+      go : (r : ℕ) → (r ≡ 0 → ⊥) → 0 ≡ Whole.fillsBefore h (4 ^ kindDigits kind w) r
+      go zero n = absurd (n refl)
+      go (suc r) n = refl
 
 -- ---- lengths
 rows-le : {h : ℕ} → h ≤ maxHeight → h * (h + 1) / 2 ≤ 1830
 rows-le {h} l = let n : h + 1 ≤ 61 = omega arith in let b : h * (h + 1) ≤ 60 * 61 = mul-le-mul l n in omega arith
 
 -- the longest is that of two layers at 10 by 60
-pub length-le : (kind : Kind) {w h : ℕ} → w ≤ maxWidth → h ≤ maxHeight → boardLength kind w h ≤ 1918894140
-length-le Kind.Ordinary {w} {h} a b =
-    let n : 4 ^ w + 1 ≤ 1048577 = omega (arith, four-le a) in
-    let m : h * (4 ^ w + 1) ≤ 60 * 1048577 = mul-le-mul b n in
-    omega arith
-length-le Kind.TwoLayers {w} {h} a b = let m : h * (h + 1) / 2 * 4 ^ w ≤ 1830 * 1048576 = mul-le-mul (rows-le b) (four-le a) in omega arith
+pub length-le : (kind : Kind) {w h : ℕ} → Width (halvesOf kind) w → h ≤ maxHeight → boardLength kind w h ≤ 1918894140
+length-le kind {w} {h} a b = go (refills kind)
+  where
+    go : (two : Bool) → cond two (h * (h + 1) / 2 * 4 ^ kindDigits kind w + h) (h * (4 ^ kindDigits kind w + 1)) ≤ 1918894140
+    go false =
+        let n : 4 ^ kindDigits kind w + 1 ≤ 1048577 = omega (arith, four-le (a .narrow)) in
+        let m : h * (4 ^ kindDigits kind w + 1) ≤ 60 * 1048577 = mul-le-mul b n in
+        omega arith
+    go true = let m : h * (h + 1) / 2 * 4 ^ kindDigits kind w ≤ 1830 * 1048576 = mul-le-mul (rows-le b) (four-le (a .narrow)) in omega arith
 
 -- a job without a board is no longer than one with
-pub shorter : (kind : Kind) (w h : ℕ) → 0 < h → noneLength w h ≤ boardLength kind w h
-shorter Kind.Ordinary w h high = omega arith
-shorter Kind.TwoLayers w h high =
-    let l : 2 ≤ h + 1 = omega arith in
-    let b : h * 2 ≤ h * (h + 1) = mul-le-mul-left h l in
-    let n : h ≤ h * (h + 1) / 2 = omega arith in
-    let m : h * 4 ^ w ≤ h * (h + 1) / 2 * 4 ^ w = mul-le-mul-right (4 ^ w) n in
-    omega arith
+pub shorter : (kind : Kind) (w h : ℕ) → 0 < h → noneLength kind w h ≤ boardLength kind w h
+shorter kind w h high = go (refills kind)
+  where
+    go : (two : Bool) → h * 4 ^ kindDigits kind w + 1 ≤ cond two (h * (h + 1) / 2 * 4 ^ kindDigits kind w + h) (h * (4 ^ kindDigits kind w + 1))
+    go false = omega arith
+    go true =
+        let l : 2 ≤ h + 1 = omega arith in
+        let b : h * 2 ≤ h * (h + 1) = mul-le-mul-left h l in
+        let n : h ≤ h * (h + 1) / 2 = omega arith in
+        let m : h * 4 ^ kindDigits kind w ≤ h * (h + 1) / 2 * 4 ^ kindDigits kind w = mul-le-mul-right (4 ^ kindDigits kind w) n in
+        omega arith
 
 -- ---- the first unit fills
 pub fills-first : (kind : Kind) (w h : ℕ) → 0 < h → isFill (shapeOf kind w h .plan 0) ≡ true
 fills-first kind w h high =
     let R = shape-rounds w h kind in
-    let m : 1 * 1 ≤ h * 4 ^ w = mul-le-mul high (four-pos w) in
+    let m : 1 * 1 ≤ h * 4 ^ kindDigits kind w = mul-le-mul high (four-pos (kindDigits kind w)) in
     let I : InRound h (courseOf kind w h) 0 0 0 = record { rows = omega arith; is = omega (arith, R .scheduled .first); within = λ l. omega arith } in
     fills-until R I high ∙ lt-ltb 0 (courseOf kind w h .work 0) (omega (arith, R .none))
 
 -- ---- a job that ends with none has spent one choosing unit
-pub chosen-once : (kind : Kind) (w h : ℕ) → 0 < h → chosenIn kind w h (noneLength w h) ≡ 1
+pub chosen-once : (kind : Kind) (w h : ℕ) → 0 < h → chosenIn kind w h (noneLength kind w h) ≡ 1
 chosen-once kind w h high =
     let R = shape-rounds w h kind in
-    let I : InRound h (courseOf kind w h) (noneLength w h) 1 0 = record {
+    let I : InRound h (courseOf kind w h) (noneLength kind w h) 1 0 = record {
       rows = high;
       is = omega (arith, R .scheduled .first, R .scheduled .next 0, R .none);
       within = λ l. omega arith;
@@ -135,10 +174,11 @@ chosen-once kind w h high =
 pub rows-are-choosing-units : RowsAreChoosingUnits
 rows-are-choosing-units kind w h u high l = units-split (shapeOf kind w h) (shape-lawful w h kind high) u l
 
--- an ordinary job has filled the whole table before it chooses
-pub entries-all : (w h u : ℕ) → 0 < h → noneLength w h ≤ u → u ≤ boardLength Kind.Ordinary w h → entriesFilled (planOf Kind.Ordinary w h) u ≡ tableSize w h
+-- a job that fills the whole table has filled it before it chooses
+pub entries-all : (kind : Kind) (w h u : ℕ) → refills kind ≡ false → 0 < h → noneLength kind w h ≤ u → u ≤ boardLength kind w h
+    → entriesFilled (planOf kind w h) u ≡ tableSize (kindDigits kind w) h
 unfolding tableSize
-entries-all w h u high some most = omega (arith, rows-are-choosing-units Kind.Ordinary w h u high most)
+entries-all kind w h u t high some most = omega (arith, subst (λ (b : Bool). u ≡ entriesFilled (planOf kind w h) u + cond b (chosenFrom (2 ^ kindDigits kind w * 2 ^ kindDigits kind w) h) (λ u. u - h * 4 ^ kindDigits kind w) u) t (rows-are-choosing-units kind w h u high most))
 
 -- ---- at least as many units are done as rows are chosen
 pub row-early : (kind : Kind) (w h : ℕ) {u r source : ℕ} → u < boardLength kind w h → shapeOf kind w h .plan u ≡ row r source → r ≤ u
@@ -160,14 +200,14 @@ left-on m n left work e l = go (eqb left n) refl
     go false q = let f : left ≡ n → ⊥ = eqb-false left n q in lt-ltb (m + n) work (omega (arith, e, l, f)) ∙ sym (ap not q)
 
 module _ {kind : Kind} {w h u : ℕ} {x : Round} (R : RoundIs kind w h u x) where
-  abbrev S : Rounds (4 ^ w) (shapeOf kind w h) (courseOf kind w h)
+  abbrev S : Rounds (4 ^ kindDigits kind w) (shapeOf kind w h) (courseOf kind w h)
   S = shape-rounds w h kind
 
   -- an entry is left to fill
-  pub fills-entry : (x .left ≡ 0 → ⊥) → (x .place < h * 4 ^ w) × (u < boardLength kind w h) × (shapeOf kind w h .plan u ≡ roundFill h (4 ^ w) (layerStart kind w) (x .place))
+  pub fills-entry : (x .left ≡ 0 → ⊥) → (x .place < h * 4 ^ kindDigits kind w) × (u < boardLength kind w h) × (shapeOf kind w h .plan u ≡ roundFill h (4 ^ kindDigits kind w) (layerStart kind w) (x .place))
   fills-entry n = go (does S (R .at))
     where
-      go : Does S u (x .rows) (x .place) → (x .place < h * 4 ^ w) × (u < boardLength kind w h) × (shapeOf kind w h .plan u ≡ roundFill h (4 ^ w) (layerStart kind w) (x .place))
+      go : Does S u (x .rows) (x .place) → (x .place < h * 4 ^ kindDigits kind w) × (u < boardLength kind w h) × (shapeOf kind w h .plan u ≡ roundFill h (4 ^ kindDigits kind w) (layerStart kind w) (x .place))
       go (fills l b p) = (omega (arith, b, S .most (x .rows)), until S (R .at) l, p)
       go (chooses l b p) = absurd (n (omega (arith, R .rest l)))
       go (rests e p) = absurd (n (R .past (omega arith)))
@@ -203,7 +243,7 @@ module _ {kind : Kind} {w h u : ℕ} {x : Round} (R : RoundIs kind w h u x) wher
       not-not false = refl
 
   -- the units stay few
-  pub units-on : w ≤ maxWidth → h ≤ maxHeight → u < 2 ^ 64 → (n : ℕ) → n ≤ x .left → u + n < 2 ^ 64
+  pub units-on : Width (halvesOf kind) w → h ≤ maxHeight → u < 2 ^ 64 → (n : ℕ) → n ≤ x .left → u + n < 2 ^ 64
   units-on a b few n l =
       ⊎-elim
       (λ (c : x .rows < h). omega (arith, until S (at-on n l) c, length-le kind a b))

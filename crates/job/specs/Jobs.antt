@@ -1,16 +1,17 @@
--- Document 01, "A job and its units", Req 02 and Req 05: a job, its ten numbers, which of them fit, the rules of opening, pausing and resuming, and the
--- job after a unit. `Checkpoint` is the paper's seven numbers, the two of the rule and that of the kind, and the stage `Infeasible` its none.
+-- Document 01, "A job and its units", Req 02, Req 05 and Req 06: a job, its ten numbers, which of them fit, the rules of opening, pausing and resuming,
+-- and the job after a unit. `Checkpoint` is the paper's seven numbers, the two of the rule and that of the kind, and the stage `Infeasible` its none.
 -- Assumes nothing.
-use mathlib.Core.Bool.{Bool, true, cond, not, _&&_}
+use mathlib.Core.Bool.{Bool, true, false, cond, not, _&&_}
 use mathlib.Core.List.{List, [], _∷_}
 use mathlib.Core.Option.{Option, none, some}
 use Prim.Native.Nat.{ℕ, zero, suc, _+_, _*_, _-_, _/_, _^_}
 use lib.Dec.{eqb, leb, ltb}
-use Rattle.board.specs.Answers.{Answer, gives, refusalSays, _then_, refuseUnless}
-use Rattle.board.specs.Boards.{among, maxWidth, maxHeight}
+use Rattle.board.specs.Answers.{Answer, gives, passed, refusalSays, _then_, refuseUnless}
+use Rattle.board.specs.Boards.{among, maxHeight, rowDigits, widthFits, isWidth}
 use Rattle.board.specs.Checks.{givensCheck, tableSize}
 use Rattle.board.specs.Search.{allBelow}
 use Rattle.edges.specs.Edges.{edgeCheck}
+use Rattle.mirror.specs.Mirror.{lopsidedCheck}
 use Rattle.elimination.specs.Task.{isFill}
 use Rattle.elimination.specs.Task as Elimination
 use Rattle.elimination.specs.Plan.{Schedule}
@@ -29,61 +30,71 @@ use Rattle.job.specs.declared.Chosen.{Chosen}
 use Rattle.job.specs.declared.Task as Task
 
 -- ---- kinds of job
--- the kind's number: ordinary 0, two layers only 1
+-- the kind's number: ordinary 0, two layers only 1, mirror boards 2
 abbrev pub kindNumber : Kind → ℕ
 kindNumber Kind.Ordinary = 0
 kindNumber Kind.TwoLayers = 1
+kindNumber Kind.Mirror = 2
 
--- the layers of 4^w entries that the table has to have room for
+-- a row is held as its left half
+abbrev pub halvesOf : Kind → Bool
+halvesOf Kind.Ordinary = false
+halvesOf Kind.TwoLayers = false
+halvesOf Kind.Mirror = true
+
+-- the table holds two layers, which are filled again before each row
+abbrev pub refills : Kind → Bool
+refills Kind.Ordinary = false
+refills Kind.TwoLayers = true
+refills Kind.Mirror = false
+
+-- the binary digits of a row's number: w, or w ÷ 2 where a row is held as its left half; they stand for w in every power
+abbrev pub kindDigits : Kind → ℕ → ℕ
+kindDigits kind w = rowDigits (halvesOf kind) w
+
+-- the layers of 4^d entries, d the digits of a row's number, that the table has to have room for
 abbrev pub layersOf : Kind → ℕ → ℕ
-layersOf Kind.Ordinary h = h
-layersOf Kind.TwoLayers h = 2
+layersOf kind h = cond (refills kind) 2 h
 
--- a job's length where a still board that keeps the givens exists, and where none does
+-- a job's length where a still board that keeps the givens exists, in a mirror job such a mirror board, and where none does
 abbrev pub boardLength : Kind → ℕ → ℕ → ℕ
-boardLength Kind.Ordinary w h = h * (4 ^ w + 1)
-boardLength Kind.TwoLayers w h = h * (h + 1) / 2 * 4 ^ w + h
+boardLength kind w h = cond (refills kind) (h * (h + 1) / 2 * 4 ^ kindDigits kind w + h) (h * (4 ^ kindDigits kind w + 1))
 
-abbrev pub noneLength : ℕ → ℕ → ℕ
-noneLength w h = h * 4 ^ w + 1
+abbrev pub noneLength : Kind → ℕ → ℕ → ℕ
+noneLength kind w h = h * 4 ^ kindDigits kind w + 1
 
--- what each unit does: an ordinary job fills the whole table and then chooses the rows; a job of two layers fills the layers from h to k before it chooses
--- row k, layer i in the half numbered i modulo 2
+-- what each unit does: the whole table is filled and then the rows are chosen; or the layers from h to k are filled before row k is chosen, layer i in the
+-- half numbered i modulo 2
 abbrev pub planOf : Kind → ℕ → ℕ → ℕ → Elimination.Task
-planOf Kind.Ordinary w h = Whole.plan h (2 ^ w * 2 ^ w)
-planOf Kind.TwoLayers w h = Two.plan h (2 ^ w * 2 ^ w)
+planOf kind w h = cond (refills kind) (Two.plan h (2 ^ kindDigits kind w * 2 ^ kindDigits kind w)) (Whole.plan h (2 ^ kindDigits kind w * 2 ^ kindDigits kind w))
 
--- the choosing units among the first u: in an ordinary job those beyond h × 4^w
+-- the choosing units among the first u: where the whole table is filled those beyond its h × 4^d entries
 abbrev pub chosenIn : Kind → ℕ → ℕ → ℕ → ℕ
-chosenIn Kind.Ordinary w h u = u - tableSize w h
-chosenIn Kind.TwoLayers w h u = chosenFrom (2 ^ w * 2 ^ w) h u
+chosenIn kind w h = cond (refills kind) (chosenFrom (2 ^ kindDigits kind w * 2 ^ kindDigits kind w) h) (λ u. u - tableSize (kindDigits kind w) h)
 
--- the shape of a job: all that its numbers and stages go by; a row is a number below 2^w, and worth at most w
+-- the shape of a job: all that its numbers and stages go by; a row is a number below 2^d, and worth at most its w cells
 abbrev pub shapeOf : Kind → ℕ → ℕ → Shape
 shapeOf kind w h = record {
-  codes = 2 ^ w;
-  entries = tableSize w (layersOf kind h);
+  codes = 2 ^ kindDigits kind w;
+  entries = tableSize (kindDigits kind w) (layersOf kind h);
   rows = h;
   plan = planOf kind w h;
   chosen = chosenIn kind w h;
   boardLength = boardLength kind w h;
-  noneLength = noneLength w h;
+  noneLength = noneLength kind w h;
   most = w;
 }
 
 -- Its rounds, one for each row, counted from 0: the unit at which round r starts, the entries that are filled in it, and where the layer starts by which
 -- its row is chosen.
 abbrev pub roundStart : Kind → ℕ → ℕ → ℕ → ℕ
-roundStart Kind.Ordinary w h r = Whole.startOf h (4 ^ w) r
-roundStart Kind.TwoLayers w h r = Two.startOf h (4 ^ w) r
+roundStart kind w h = cond (refills kind) (Two.startOf h (4 ^ kindDigits kind w)) (Whole.startOf h (4 ^ kindDigits kind w))
 
 abbrev pub roundWork : Kind → ℕ → ℕ → ℕ → ℕ
-roundWork Kind.Ordinary w h r = Whole.fillsBefore h (4 ^ w) r
-roundWork Kind.TwoLayers w h r = (h - r) * 4 ^ w
+roundWork kind w h = cond (refills kind) (λ r. (h - r) * 4 ^ kindDigits kind w) (Whole.fillsBefore h (4 ^ kindDigits kind w))
 
 abbrev pub layerStart : Kind → ℕ → ℕ → ℕ
-layerStart Kind.Ordinary w r = r * 4 ^ w
-layerStart Kind.TwoLayers w r = Two.half (4 ^ w) (r + 1)
+layerStart kind w = cond (refills kind) (λ r. Two.half (4 ^ kindDigits kind w) (r + 1)) (λ r. r * 4 ^ kindDigits kind w)
 
 abbrev pub courseOf : Kind → ℕ → ℕ → Schedule
 courseOf kind w h = record { start = roundStart kind w h; work = roundWork kind w h; source = layerStart kind w }
@@ -148,7 +159,7 @@ numbersIn t = record { units = t .units; above = t .above; last = t .last; live 
 unfoldable pub checkpointFits : Kind → Checkpoint → Bool
 checkpointFits kind t =
     eqb (t .kind) (kindNumber kind) &&
-    (among maxWidth (t .width) &&
+    (isWidth (halvesOf kind) (t .width) &&
     among maxHeight (t .height) &&
     ruleFits (ruleOf t) &&
     numbersFit (shapeOf kind (t .width) (t .height)) (numbersIn t))
@@ -181,13 +192,17 @@ stageOf kind t =
 abbrev pub jobOf : Kind → Checkpoint → Job
 jobOf kind t = record { kind = kind; rule = ruleOf t; width = t .width; height = t .height; units = t .units; stage = stageOf kind t }
 
--- the checks of what is lent to be read, as opening and working make them: 3, 4, 14
-unfoldable pub readCheck : Rule → ℕ → ℕ → List ℕ → Answer
-readCheck rule w h givens = givensCheck w h givens then edgeCheck rule w h givens
+-- 15 where rows are held as their left halves
+abbrev pub mirrorCheck : Kind → ℕ → ℕ → List ℕ → Answer
+mirrorCheck kind w h givens = cond (halvesOf kind) (lopsidedCheck w h givens) passed
 
--- opening: 1, 2, 13, then those
+-- the checks of what is lent to be read, as opening and working make them: 3, 4, 14, 15
+unfoldable pub readCheck : Kind → Rule → ℕ → ℕ → List ℕ → Answer
+readCheck kind rule w h givens = givensCheck w h givens then edgeCheck rule w h givens then mirrorCheck kind w h givens
+
+-- opening: 1, 2, 13 by how the kind holds rows, then those
 unfoldable pub openRule : Kind → Rule → ℕ → ℕ → List ℕ → Answer
-openRule kind rule w h givens = gridCheck rule w h then readCheck rule w h givens then gives (jobSays (start kind rule w h))
+openRule kind rule w h givens = gridCheck (halvesOf kind) rule w h then readCheck kind rule w h givens then gives (jobSays (start kind rule w h))
 
 -- pausing: 7
 unfoldable pub pauseRule : Job → Answer
@@ -200,7 +215,7 @@ resumeRule kind t = refuseUnless (checkpointFits kind t) 7 then gives (checkpoin
 -- ---- a unit
 -- the job runs, and its width and height are within their limits
 abbrev pub runsWithin : Job → Bool
-runsWithin j = leb (j .width) maxWidth && leb (j .height) maxHeight && eqb (markOf (j .stage)) 0
+runsWithin j = widthFits (halvesOf (j .kind)) (j .width) && leb (j .height) maxHeight && eqb (markOf (j .stage)) 0
 
 -- The task of the next unit: there is none where the job has ended, its units are spent, or its width or height is past its limit.
 unfoldable pub taskDue : Job → Option Elimination.Task

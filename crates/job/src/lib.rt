@@ -10,15 +10,17 @@ mod units;
 
 ghost use mathlib.Core.Path.{_≡_};
 ghost use Rattle.board.specs.Answers.{checkSays};
-ghost use Rattle.job.specs.Jobs.{kindNumber, layersOf, readCheck, numbersOf, taskDue, taskOf, afterUnit, afterFills};
+ghost use Rattle.job.specs.Jobs.{kindNumber, halvesOf, refills, kindDigits, layersOf, readCheck, numbersOf, taskDue, taskOf, afterUnit, afterFills};
 ghost use Rattle.job.specs.Calls.{Opens, Pauses, Resumes};
 
-// The kinds of job. Both come to the same board; they differ in the table that they take, and in their length.
+// The kinds of job. The first two come to the same board; they differ in the table that they take, and in their length.
 pub enum Kind {
     // The whole table is filled, h layers, and then the rows are chosen.
     Ordinary,
     // The table holds two layers, which are filled again before each row.
     TwoLayers,
+    // Mirror boards alone, of even widths up to 20: a row is held as its left half. The whole table is filled, as for an ordinary job.
+    Mirror,
 }
 
 // What a job does next, with that stage's numbers: the last two rows chosen, and the live cells so far that were free.
@@ -38,7 +40,7 @@ pub enum Stage {
         last: usize,
         score: usize,
     },
-    // No still board keeps the givens.
+    // No still board keeps the givens, in a mirror job no mirror board.
     Infeasible,
 }
 
@@ -101,14 +103,15 @@ pub enum Chosen {
     Nothing,
 }
 
-// A job of a kind at unit 0 under a rule for a grid of givens: w × h marks, 0 free, 1 given dead, 2 given live. Refusals 1, 2, 13, 3, 4, 14.
+// A job of a kind at unit 0 under a rule for a grid of givens: w × h marks, 0 free, 1 given dead, 2 given live. Refusals 1, 2, 13, 3, 4,
+// 14, 15.
 pub fn open(kind: Kind, rule: Rule, width: usize, height: usize, givens: &[u8]) -> JobResult
     ensures { λ r. ⌜ Opens kind rule width height (now (givens .entry)) r ⌝ }
 {
-    if let Check::Refused(r) = rule::check(rule, width, height) {
+    if let Check::Refused(r) = rule::check(kind.halves(), rule, width, height) {
         return JobResult::Refused(r);
     }
-    if let Check::Refused(r) = check_read(rule, width, height, givens) {
+    if let Check::Refused(r) = check_read(kind, rule, width, height, givens) {
         return JobResult::Refused(r);
     }
     JobResult::Ready(Job {
@@ -125,14 +128,20 @@ pub fn open(kind: Kind, rule: Rule, width: usize, height: usize, givens: &[u8]) 
     })
 }
 
-// The checks of what is lent to be read, by opening and by working: 3, 4, 14.
-pub fn check_read(rule: Rule, width: usize, height: usize, givens: &[u8]) -> Check
-    ensures { λ r. ⌜ checkSays r ≡ readCheck rule width height (now (givens .entry)) ⌝ }
+// The checks of what is lent to be read, by opening and by working: 3, 4, 14, and 15 where rows are held as their left halves.
+pub fn check_read(kind: Kind, rule: Rule, width: usize, height: usize, givens: &[u8]) -> Check
+    ensures { λ r. ⌜ checkSays r ≡ readCheck kind rule width height (now (givens .entry)) ⌝ }
 {
     if let Check::Refused(r) = board::check_givens(width, height, givens) {
         return Check::Refused(r);
     }
-    edges::check(rule, width, height, givens)
+    if let Check::Refused(r) = edges::check(rule, width, height, givens) {
+        return Check::Refused(r);
+    }
+    if !kind.halves() {
+        return Check::Passed;
+    }
+    mirror::check(width, height, givens)
 }
 
 impl Kind {
@@ -143,17 +152,44 @@ impl Kind {
         match self {
             Kind::Ordinary => 0,
             Kind::TwoLayers => 1,
+            Kind::Mirror => 2,
         }
     }
 
-    // The layers of 4^w entries that the table of a grid of h rows has to have room for.
+    // Whether a row is held as its left half.
+    pub fn halves(self) -> bool
+        ensures { λ r. ⌜ r ≡ halvesOf self ⌝ }
+    {
+        match self {
+            Kind::Ordinary => false,
+            Kind::TwoLayers => false,
+            Kind::Mirror => true,
+        }
+    }
+
+    // Whether the table holds two layers, which are filled again before each row.
+    pub fn refills(self) -> bool
+        ensures { λ r. ⌜ r ≡ refills self ⌝ }
+    {
+        match self {
+            Kind::Ordinary => false,
+            Kind::TwoLayers => true,
+            Kind::Mirror => false,
+        }
+    }
+
+    // The binary digits of the number of a row of w cells.
+    pub fn row_digits(self, w: usize) -> usize
+        ensures { λ r. ⌜ r ≡ kindDigits self w ⌝ }
+    {
+        board::row_digits(self.halves(), w)
+    }
+
+    // The layers of 4 to the `row_digits` entries that the table of a grid of h rows has to have room for.
     pub fn layers(self, h: usize) -> usize
         ensures { λ r. ⌜ r ≡ layersOf self h ⌝ }
     {
-        match self {
-            Kind::Ordinary => h,
-            Kind::TwoLayers => 2,
-        }
+        if self.refills() { 2 } else { h }
     }
 }
 

@@ -8,17 +8,17 @@ use crate::shape::Round;
 use board::Check;
 use rule::Rule;
 ghost use mathlib.Core.Path.{_≡_};
-ghost use Rattle.board.specs.Boards.{maxWidth, maxHeight};
+ghost use Rattle.board.specs.Boards.{maxMirrorWidth, maxHeight, Width};
 ghost use mathlib.Core.Bool.{true, cond};
 ghost use Prim.Native.Nat.{_≤_, _<_};
 ghost use Rattle.elimination.specs.Shape.{unitsFit, rowsChosen, rowsFit};
-ghost use Rattle.job.specs.Jobs.{shapeOf, aboveOf, lastOf, liveOf, markOf, ruleOf, checkpointFits, stageFits, jobFits, numbersOf, stageOf, jobOf};
+ghost use Rattle.job.specs.Jobs.{halvesOf, shapeOf, aboveOf, lastOf, liveOf, markOf, ruleOf, checkpointFits, stageFits, jobFits, numbersOf, stageOf, jobOf};
 ghost use Rattle.job.specs.Inner.{RoundIs};
 ghost use Rattle.job.specs.declared.Stage.{Stage};
 
 // Whether the units, which are in round x, fit the end mark.
 fn units_fit(kind: Kind, w: usize, h: usize, units: usize, x: Round, mark: usize) -> bool
-    requires { ⌜ (w ≤ maxWidth) × (h ≤ maxHeight) × RoundIs kind w h units x ⌝ }
+    requires { ⌜ Width (halvesOf kind) w × (h ≤ maxHeight) × RoundIs kind w h units x ⌝ }
     ensures { λ r. ⌜ r ≡ unitsFit (shapeOf kind w h) units mark ⌝ }
 {
     match mark {
@@ -29,7 +29,7 @@ fn units_fit(kind: Kind, w: usize, h: usize, units: usize, x: Round, mark: usize
             }
             x.place == 0
         }
-        2 => units == board::table_size(w, h) + 1,
+        2 => units == board::table_size(kind.row_digits(w), h) + 1,
         _ => false,
     }
 }
@@ -47,7 +47,7 @@ fn rows_chosen(kind: Kind, w: usize, h: usize, units: usize, x: Round, mark: usi
 
 // Whether the rows and the live cells fit k rows chosen.
 fn rows_fit(w: usize, k: usize, above: usize, last: usize, live: usize) -> bool
-    requires { ⌜ (w ≤ maxWidth) × (k ≤ maxHeight) ⌝ }
+    requires { ⌜ (w ≤ maxMirrorWidth) × (k ≤ maxHeight) ⌝ }
     ensures { λ r. ⌜ r ≡ rowsFit w k above last live ⌝ }
 {
     if w * k < live {
@@ -80,13 +80,14 @@ pub fn checkpoint_fits(kind: Kind, t: Checkpoint) -> bool
     }
     let w = t.width;
     let h = t.height;
-    if let Check::Refused(_) = rule::check(rule_of(t), w, h) {
+    if let Check::Refused(_) = rule::check(kind.halves(), rule_of(t), w, h) {
         return false;
     }
-    if t.above >> w != 0 {
+    let digits = kind.row_digits(w);
+    if t.above >> digits != 0 {
         return false;
     }
-    if t.last >> w != 0 {
+    if t.last >> digits != 0 {
         return false;
     }
     let x = shape::round_of(kind, w, h, t.units);
@@ -99,7 +100,7 @@ pub fn checkpoint_fits(kind: Kind, t: Checkpoint) -> bool
 
 // Whether a running job's stage is the task of its next unit.
 fn stage_fits(kind: Kind, w: usize, h: usize, units: usize, stage: Stage) -> bool
-    requires { ⌜ (w ≤ maxWidth) × (h ≤ maxHeight) ⌝ }
+    requires { ⌜ Width (halvesOf kind) w × (h ≤ maxHeight) ⌝ }
     ensures { λ r. ⌜ r ≡ stageFits (shapeOf kind w h) units stage ⌝ }
 {
     let x = shape::round_of(kind, w, h, units);
@@ -198,7 +199,7 @@ pub fn numbers_of(job: Job) -> Checkpoint
 
 // The stage that numbers of a kind give.
 fn stage_of(kind: Kind, t: Checkpoint) -> Stage
-    requires { ⌜ (t .width ≤ maxWidth) × (t .height ≤ maxHeight) ⌝ }
+    requires { ⌜ Width (halvesOf kind) (t .width) × (t .height ≤ maxHeight) ⌝ }
     ensures { λ r. ⌜ r ≡ stageOf kind t ⌝ }
 {
     let mark = t.mark;
@@ -229,7 +230,7 @@ pub fn running(fills: bool, above: usize, last: usize, live: usize) -> Stage
 
 // The job of ten numbers, as a kind.
 pub fn job_of(kind: Kind, t: Checkpoint) -> Job
-    requires { ⌜ (t .width ≤ maxWidth) × (t .height ≤ maxHeight) ⌝ }
+    requires { ⌜ Width (halvesOf kind) (t .width) × (t .height ≤ maxHeight) ⌝ }
     ensures { λ r. ⌜ r ≡ jobOf kind t ⌝ }
 {
     let rule = rule_of(t);

@@ -6,9 +6,9 @@ ghost use mathlib.Core.Bool.{cond};
 ghost use mathlib.Core.Option.{none, some};
 ghost use lib.Dec.{ltb};
 ghost use Prim.Native.Nat.{_^_, _*_, _≤_, _<_};
-ghost use Rattle.board.specs.Boards.{maxWidth, maxHeight};
+ghost use Rattle.board.specs.Boards.{maxHeight, Width};
 ghost use Rattle.elimination.specs.Rounds.{roundFill};
-ghost use Rattle.job.specs.Jobs.{boardLength, roundWork, layerStart, shapeOf, taskOf};
+ghost use Rattle.job.specs.Jobs.{halvesOf, kindDigits, boardLength, roundWork, layerStart, shapeOf, taskOf};
 ghost use Rattle.job.specs.Inner.{RoundIs};
 
 // The round of a unit: the rows chosen before it, its place in the round, and the entries that are left to fill in the round, its own counted.
@@ -18,44 +18,42 @@ pub struct Round {
     pub left: usize,
 }
 
-// The entries of so many layers of 4^w.
-fn entries(w: usize, layers: usize) -> usize
-    requires { ⌜ (w ≤ maxWidth) × (layers ≤ maxHeight) ⌝ }
-    ensures { λ r. ⌜ (r ≡ layers * 4 ^ w) × (r ≤ 62914560) ⌝ }
+// The entries of so many layers.
+fn entries(kind: Kind, w: usize, layers: usize) -> usize
+    requires { ⌜ Width (halvesOf kind) w × (layers ≤ maxHeight) ⌝ }
+    ensures { λ r. ⌜ (r ≡ layers * 4 ^ kindDigits kind w) × (r ≤ 62914560) ⌝ }
 {
-    layers << (2 * w)
+    layers << (2 * kind.row_digits(w))
 }
 
 // The entries filled in the round of the row that has r rows above it.
 fn work_before(kind: Kind, w: usize, h: usize, r: usize) -> usize
-    requires { ⌜ (w ≤ maxWidth) × (h ≤ maxHeight) × (r ≤ h) ⌝ }
+    requires { ⌜ Width (halvesOf kind) w × (h ≤ maxHeight) × (r ≤ h) ⌝ }
     ensures { λ x. ⌜ (x ≡ roundWork kind w h r) × (x ≤ 62914560) ⌝ }
 {
-    match kind {
-        Kind::Ordinary => {
-            if r != 0 {
-                return 0;
-            }
-            entries(w, h)
-        }
-        Kind::TwoLayers => entries(w, h - r),
+    if kind.refills() {
+        return entries(kind, w, h - r);
     }
+    if r != 0 {
+        return 0;
+    }
+    entries(kind, w, h)
 }
 
 // Where the layer starts by which the row that has r rows above it is chosen.
 fn layer_start(kind: Kind, w: usize, r: usize) -> usize
-    requires { ⌜ (w ≤ maxWidth) × (r ≤ maxHeight) ⌝ }
+    requires { ⌜ Width (halvesOf kind) w × (r ≤ maxHeight) ⌝ }
     ensures { λ x. ⌜ x ≡ layerStart kind w r ⌝ }
 {
-    match kind {
-        Kind::Ordinary => entries(w, r),
-        Kind::TwoLayers => entries(w, (r + 1) % 2),
+    if kind.refills() {
+        return entries(kind, w, (r + 1) % 2);
     }
+    entries(kind, w, r)
 }
 
 // The round of a unit.
 pub fn round_of(kind: Kind, w: usize, h: usize, units: usize) -> Round
-    requires { ⌜ (w ≤ maxWidth) × (h ≤ maxHeight) ⌝ }
+    requires { ⌜ Width (halvesOf kind) w × (h ≤ maxHeight) ⌝ }
     ensures { λ r. ⌜ RoundIs kind w h units r ⌝ }
 {
     let mut rows = 0;
@@ -81,7 +79,7 @@ pub fn round_of(kind: Kind, w: usize, h: usize, units: usize) -> Round
 
 // What a unit is to do; nothing past the job's length.
 pub fn task_at(kind: Kind, w: usize, h: usize, units: usize) -> Task
-    requires { ⌜ (w ≤ maxWidth) × (h ≤ maxHeight) ⌝ }
+    requires { ⌜ Width (halvesOf kind) w × (h ≤ maxHeight) ⌝ }
     ensures { λ r. ⌜ taskOf r ≡ cond (ltb units (boardLength kind w h)) (some (shapeOf kind w h .plan units)) none ⌝ }
 {
     let x = round_of(kind, w, h, units);
@@ -98,10 +96,10 @@ pub fn task_at(kind: Kind, w: usize, h: usize, units: usize) -> Task
 
 // The entry at a place of a round.
 fn fill_at(kind: Kind, w: usize, h: usize, place: usize) -> Task
-    requires { ⌜ (w ≤ maxWidth) × (h ≤ maxHeight) × (place < h * 4 ^ w) ⌝ }
-    ensures { λ r. ⌜ taskOf r ≡ some (roundFill h (4 ^ w) (layerStart kind w) place) ⌝ }
+    requires { ⌜ Width (halvesOf kind) w × (h ≤ maxHeight) × (place < h * 4 ^ kindDigits kind w) ⌝ }
+    ensures { λ r. ⌜ taskOf r ≡ some (roundFill h (4 ^ kindDigits kind w) (layerStart kind w) place) ⌝ }
 {
-    let q = entries(w, 1);
+    let q = entries(kind, w, 1);
     let after = place / q;
     let source = layer_start(kind, w, h - after);
     let target = layer_start(kind, w, h - 1 - after);

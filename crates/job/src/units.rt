@@ -4,20 +4,21 @@ use crate::Chosen;
 use crate::Job;
 use crate::numbers;
 ghost use mathlib.Core.Path.{_≡_};
-ghost use Rattle.board.specs.Boards.{maxWidth, maxHeight};
+ghost use Rattle.board.specs.Boards.{maxHeight, Width};
 ghost use mathlib.Core.Bool.{cond};
 ghost use lib.Dec.{ltb};
 ghost use Prim.Native.Nat.{suc, _+_, _^_, _≤_, _<_};
 ghost use Rattle.elimination.specs.Task.{isFill};
 ghost use Rattle.elimination.specs.Shape.{afterEntries, afterNone};
-ghost use Rattle.job.specs.Jobs.{boardLength, runsWithin, shapeOf, numbersIn, numbersOf, jobWith, afterChoice};
+ghost use Rattle.job.specs.Jobs.{halvesOf, boardLength, runsWithin, shapeOf, numbersIn, numbersOf, jobWith, afterChoice};
 ghost use Rattle.job.specs.declared.Chosen.{Chosen};
 
 // Whether the job runs, and its width and height are within their limits.
 pub fn is_running(job: Job) -> bool
     ensures { λ r. ⌜ r ≡ runsWithin job ⌝ }
 {
-    if board::MAX_WIDTH < job.width {
+    let kind = job.kind;
+    if !board::width_fits(kind.halves(), job.width) {
         return false;
     }
     if board::MAX_HEIGHT < job.height {
@@ -49,7 +50,7 @@ pub fn after_entries(job: Job, count: usize, more: bool) -> Job
 
 // After the choice of the row with r rows above it.
 pub fn after_choice(job: Job, r: usize, chosen: Chosen) -> Job
-    requires { ⌜ (job .width ≤ maxWidth) × (job .height ≤ maxHeight) × (job .units < boardLength (job .kind) (job .width) (job .height)) × (r ≤ job .units) ⌝ }
+    requires { ⌜ Width (halvesOf (job .kind)) (job .width) × (job .height ≤ maxHeight) × (job .units < boardLength (job .kind) (job .width) (job .height)) × (r ≤ job .units) ⌝ }
     ensures { λ x. ⌜ x ≡ afterChoice (shapeOf (job .kind) (job .width) (job .height)) r job chosen ⌝ }
 {
     match chosen {
@@ -65,14 +66,14 @@ pub fn after_choice(job: Job, r: usize, chosen: Chosen) -> Job
 
 // After a row.
 fn after_row(job: Job, r: usize, row: usize, worth: usize) -> Job
-    requires { ⌜ (job .width ≤ maxWidth) × (job .height ≤ maxHeight) × (job .units < boardLength (job .kind) (job .width) (job .height)) × (r ≤ job .units) ⌝ }
+    requires { ⌜ Width (halvesOf (job .kind)) (job .width) × (job .height ≤ maxHeight) × (job .units < boardLength (job .kind) (job .width) (job .height)) × (r ≤ job .units) ⌝ }
     ensures { λ x. ⌜ x ≡ afterChoice (shapeOf (job .kind) (job .width) (job .height)) r job (Chosen.Row row worth) ⌝ }
 {
     let kind = job.kind;
     let w = job.width;
     let h = job.height;
     let t = numbers::numbers_of(job);
-    if row >> w != 0 {
+    if row >> kind.row_digits(w) != 0 {
         return job;
     }
     if w < worth {
@@ -108,7 +109,7 @@ fn mark_after(h: usize, r: usize) -> usize
 
 // Where no row can be chosen as row 1.
 fn after_none(job: Job) -> Job
-    requires { ⌜ (job .width ≤ maxWidth) × (job .height ≤ maxHeight) × (job .units < boardLength (job .kind) (job .width) (job .height)) ⌝ }
+    requires { ⌜ Width (halvesOf (job .kind)) (job .width) × (job .height ≤ maxHeight) × (job .units < boardLength (job .kind) (job .width) (job .height)) ⌝ }
     ensures { λ r. ⌜ r ≡ jobWith job (afterNone (numbersIn (numbersOf job))) ⌝ }
 {
     let kind = job.kind;

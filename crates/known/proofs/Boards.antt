@@ -4,6 +4,7 @@ use mathlib.Core.Path.{refl}
 use mathlib.Core.List.{flatMap}
 use Rattle.board.specs.Search.{firstNot, allBelow}
 use Rattle.board.specs.Sums.{total}
+use Rattle.board.specs.Lists.{listed}
 use Rattle.board.specs.Checks.{sizeCheck, cellsCheck, givensCheck, tableSize}
 use Rattle.elimination.specs.Candidates.{scan}
 use Rattle.elimination.specs.Kind.{choose, entry}
@@ -12,15 +13,16 @@ use Rattle.elimination.specs.FillThenChoose.{plan}
 use Rattle.elimination.specs.TwoLayers.{planFrom}
 use Rattle.rule.specs.Rule.{ruleCheck, gridCheck, nextUnder, conway}
 use Rattle.life.specs.Plane.{onPlane, around}
-use Rattle.life.specs.Rows.{cellOf, becomes, stepsTo}
+use Rattle.life.specs.Rows.{rowNumber, cellOf, becomes, stepsTo}
 use Rattle.life.specs.Calls.{nextAt, keepsAt, lifeCheck, judged, judgeRule}
 use Rattle.plaintext.specs.Lines.{linesOf}
 use Rattle.plaintext.specs.Reading as Reading
-use Rattle.score_table.specs.Rows.{markKept, rowKept, cellWorth, rowWorth}
+use Rattle.score_table.specs.Rows.{markKept, rowKept, cellWorth, rowWorth, wholeRow}
 use Rattle.board_rows.specs.Rows.{written}
 use Rattle.board_rows.specs.Calls.{rowWrites}
 use Rattle.elimination.specs.Shape.{unitsFit, rowsChosen, rowsFit, numbersFit, chosenFrom}
 use Rattle.edges.specs.Edges.{givenLiveAt, edgeThree, edgeCheck}
+use Rattle.mirror.specs.Mirror.{lopsidedCheck}
 use Rattle.job.specs.Jobs.{checkpointFits, jobFits, stageOf, readCheck, openRule, resumeRule}
 use Rattle.service.specs.Units.{unitBy}
 use Rattle.service.specs.Service.{workCheck, worksOn, workOf}
@@ -29,7 +31,7 @@ use Rattle.solver.specs.Units.{unitOf}
 use Rattle.known.specs.Known.{workedIn, chosenBy, Known}
 
 pub known : Known
-unfolding flatMap firstNot allBelow total sizeCheck cellsCheck givensCheck scan choose entry ruleCheck gridCheck nextUnder conway onPlane around cellOf becomes stepsTo nextAt keepsAt lifeCheck judged judgeRule linesOf Reading.judge Reading.judgeLines Reading.judged Reading.firstBad Reading.rowsOf Reading.widthOf Reading.filled Reading.cellsOf Reading.boardOver Reading.sizeRule Reading.readRule markKept rowKept cellWorth rowWorth written rowWrites tableSize unitsFit rowsChosen rowsFit numbersFit chosenFrom checkpointFits jobFits stageOf givenLiveAt edgeThree edgeCheck readCheck openRule resumeRule workCheck lentCheck reads fillEntry plan planFrom unitBy unitOf worksOn workOf workedIn chosenBy
+unfolding flatMap firstNot allBelow total sizeCheck cellsCheck givensCheck scan choose entry ruleCheck gridCheck nextUnder conway onPlane around cellOf becomes stepsTo nextAt keepsAt lifeCheck judged judgeRule linesOf Reading.judge Reading.judgeLines Reading.judged Reading.firstBad Reading.rowsOf Reading.widthOf Reading.filled Reading.cellsOf Reading.boardOver Reading.sizeRule Reading.readRule markKept rowKept cellWorth rowWorth wholeRow listed rowNumber lopsidedCheck written rowWrites tableSize unitsFit rowsChosen rowsFit numbersFit chosenFrom checkpointFits jobFits stageOf givenLiveAt edgeThree edgeCheck readCheck openRule resumeRule workCheck lentCheck reads fillEntry plan planFrom unitBy unitOf worksOn workOf workedIn chosenBy
 known = record {
   m1 = refl;
   m2 = refl;
@@ -62,9 +64,24 @@ known = record {
   filling-again = refl;
   one-row-above = refl;
   another-kind = refl;
+  mirror-2 = refl;
+  mirror-4 = refl;
+  mirror-none = refl;
+  mirror-20 = refl;
+  mirror-3 = refl;
+  mirror-22 = refl;
+  lopsided = refl;
+  lopsided-worked = refl;
+  ordinary-lopsided = refl;
+  mirror-row = refl;
+  mirror-whole-row = refl;
+  mirror-three-live = refl;
+  mirror-odd = refl;
   spoiled = refl;
   above-600 = refl;
   up-to-600 = refl;
+  above-1200 = refl;
+  up-to-1200 = refl;
   row-of-6 = refl;
   row-past = refl;
   reflected = refl;

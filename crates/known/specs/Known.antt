@@ -1,9 +1,9 @@
--- Document 01, "Known boards": M1 to M10, the free 3 by 3 grid, grids with live givens, edge threes, jobs of two layers, a spoiled table, rows written,
--- and texts, stated of the rules themselves.
+-- Document 01, "Known boards": M1 to M10, the free 3 by 3 grid, grids with live givens, edge threes, jobs of two layers, mirror boards, a spoiled table,
+-- rows written, and texts, stated of the rules themselves.
 -- Assumes nothing.
 use mathlib.Core.Path.{_≡_}
 use mathlib.Core.List.{List, [], _∷_}
-use Prim.Native.Nat.{ℕ, _*_}
+use Prim.Native.Nat.{ℕ, _*_, _/_}
 use lib.ListN.{replicate}
 use Rattle.board.specs.Answers.{Answer, gives, refuses}
 use Rattle.rule.specs.Rule.{conwayRule, conway}
@@ -33,23 +33,27 @@ callEnd r = record { answer = r .answer; units = r .state .job .units; board = r
 unfoldable pub workedIn : ℕ → Kind → ℕ → ℕ → List ℕ → CallEnd
 workedIn n kind w h givens = callEnd (workOf grid (start kind conwayRule w h) givens (replicate n 7) (replicate (w * h) 9) 200)
 
--- of an ordinary job, and of one of two layers
+-- of an ordinary job, of one of two layers, and of a mirror job
 abbrev pub solved : ℕ → ℕ → List ℕ → CallEnd
 solved w h givens = workedIn (tableSize w h) Kind.Ordinary w h givens
 
 abbrev pub solvedInTwo : ℕ → ℕ → List ℕ → CallEnd
 solvedInTwo w h givens = workedIn (tableSize w 2) Kind.TwoLayers w h givens
 
--- width 1, height 2, free, the table filled and no row chosen yet: one such call, where layer 1 is right, and layer 2 holds n for rows 0, 0 and none for others
-unfoldable pub chosenBy : ℕ → CallEnd
-chosenBy n =
+abbrev pub solvedMirror : ℕ → ℕ → List ℕ → CallEnd
+solvedMirror w h givens = workedIn (tableSize (w / 2) h) Kind.Mirror w h givens
+
+-- a row's number has one binary digit, height 2, free, the table filled and no row chosen yet: one such call, where layer 1 is right, and layer 2
+-- holds n for rows 0, 0 and none for others
+unfoldable pub chosenBy : Kind → ℕ → ℕ → CallEnd
+chosenBy kind w n =
     callEnd
     (workOf
     grid
-    (record { kind = Kind.Ordinary; rule = conwayRule; width = 1; height = 2; units = 8; stage = Stage.Choosing 0 0 0 })
-    (0 ∷ 0 ∷ [])
+    (record { kind = kind; rule = conwayRule; width = w; height = 2; units = 8; stage = Stage.Choosing 0 0 0 })
+    (replicate (w * 2) 0)
     (0 ∷ 65535 ∷ 0 ∷ 65535 ∷ n ∷ 65535 ∷ 65535 ∷ 65535 ∷ [])
-    (9 ∷ 9 ∷ [])
+    (replicate (w * 2) 9)
     200)
 
 -- numbers of a running Conway job of a grid two columns wide: height, units done, row above, last row, live cells, kind
@@ -102,17 +106,38 @@ pub record Known : Type 0 where
   pub tenth : (jobSays (start Kind.Ordinary conwayRule 2 3) ≡ 2 ∷ 3 ∷ 0 ∷ 0 ∷ 0 ∷ 0 ∷ 0 ∷ 8 ∷ 12 ∷ 0 ∷ [])
       × (jobSays (start Kind.TwoLayers conwayRule 2 3) ≡ 2 ∷ 3 ∷ 0 ∷ 0 ∷ 0 ∷ 0 ∷ 0 ∷ 8 ∷ 12 ∷ 1 ∷ [])
   pub its-kind : resumeRule Kind.TwoLayers (numbersOf (start Kind.TwoLayers conwayRule 2 3)) ≡ gives (jobSays (start Kind.TwoLayers conwayRule 2 3))
-  pub of-no-kind : resumeRule Kind.TwoLayers (numbered 2 2 0 0 0 2) ≡ refuses 7 []
+  pub of-no-kind : resumeRule Kind.TwoLayers (numbered 2 2 0 0 0 3) ≡ refuses 7 []
   pub ordinary-as-two : resumeRule Kind.TwoLayers (numbersOf (start Kind.Ordinary conwayRule 2 3)) ≡ refuses 7 []
   -- 2 by 2 in two layers, 40 units done: one row is chosen, and layer 2 is filled again. Its numbers are taken with a last row, and not with a row above
   pub filling-again : resumeRule Kind.TwoLayers (numbered 2 40 0 3 2 1) ≡ gives (2 ∷ 2 ∷ 40 ∷ 0 ∷ 3 ∷ 2 ∷ 0 ∷ 8 ∷ 12 ∷ 1 ∷ [])
   pub one-row-above : resumeRule Kind.TwoLayers (numbered 2 40 3 3 2 1) ≡ refuses 7 []
   pub another-kind : resumeRule Kind.Ordinary (numbersOf (start Kind.TwoLayers conwayRule 2 3)) ≡ refuses 7 []
+  -- Mirror boards. 2 by 2 free: score 4, 2 × (4 + 1) units. 4 by 2 free: the block in the two middle columns, which are neighbours, 2 × (16 + 1) units.
+  -- Width 2, height 1, both live: none, 4 + 1 units
+  pub mirror-2 : solvedMirror 2 2 (0 ∷ 0 ∷ 0 ∷ 0 ∷ []) ≡ record { answer = finished 4; units = 10; board = 1 ∷ 1 ∷ 1 ∷ 1 ∷ [] }
+  pub mirror-4 : solvedMirror 4 2 (replicate 8 0) ≡ record { answer = finished 4; units = 34; board = 0 ∷ 1 ∷ 1 ∷ 0 ∷ 0 ∷ 1 ∷ 1 ∷ 0 ∷ [] }
+  pub mirror-none : solvedMirror 2 1 (2 ∷ 2 ∷ []) ≡ record { answer = infeasible; units = 5; board = 9 ∷ 9 ∷ [] }
+  -- width 20 opens, 3 and 22 don't
+  pub mirror-20 : openRule Kind.Mirror conwayRule 20 1 (replicate 20 0) ≡ gives (jobSays (start Kind.Mirror conwayRule 20 1))
+  pub mirror-3 : openRule Kind.Mirror conwayRule 3 1 (replicate 3 0) ≡ refuses 1 []
+  pub mirror-22 : openRule Kind.Mirror conwayRule 22 1 (replicate 22 0) ≡ refuses 1 []
+  -- 2 by 2, third cell given dead: 15 at its place, though the dead board keeps it; an ordinary job opens
+  pub lopsided : openRule Kind.Mirror conwayRule 2 2 (0 ∷ 0 ∷ 1 ∷ 0 ∷ []) ≡ refuses 15 (2 ∷ [])
+  pub lopsided-worked : solvedMirror 2 2 (0 ∷ 0 ∷ 1 ∷ 0 ∷ []) ≡ record { answer = refuses 15 (2 ∷ []); units = 0; board = 9 ∷ 9 ∷ 9 ∷ 9 ∷ [] }
+  pub ordinary-lopsided : openRule Kind.Ordinary conwayRule 2 2 (0 ∷ 0 ∷ 1 ∷ 0 ∷ []) ≡ gives (jobSays (start Kind.Ordinary conwayRule 2 2))
+  -- its numbers: 2 by 2 with one row chosen, the left half 1 and two live cells; a last row of two digits, three live cells and an odd width are 7
+  pub mirror-row : resumeRule Kind.Mirror (numbered 2 9 0 1 2 2) ≡ gives (2 ∷ 2 ∷ 9 ∷ 0 ∷ 1 ∷ 2 ∷ 0 ∷ 8 ∷ 12 ∷ 2 ∷ [])
+  pub mirror-whole-row : resumeRule Kind.Mirror (numbered 2 9 0 3 2 2) ≡ refuses 7 []
+  pub mirror-three-live : resumeRule Kind.Mirror (numbered 2 9 0 1 3 2) ≡ refuses 7 []
+  pub mirror-odd : resumeRule Kind.Mirror (numbersOf (start Kind.Mirror conwayRule 3 1)) ≡ refuses 7 []
   -- layer 2 is none throughout: 9, no row can be chosen after row 1; row 1 stays done and written, and the job stands before row 2
-  pub spoiled : chosenBy 65535 ≡ record { answer = refuses 9 []; units = 9; board = 0 ∷ 9 ∷ [] }
+  pub spoiled : chosenBy Kind.Ordinary 1 65535 ≡ record { answer = refuses 9 []; units = 9; board = 0 ∷ 9 ∷ [] }
   -- a number read from the table above 600 counts as none, and 600 doesn't
-  pub above-600 : chosenBy 601 ≡ record { answer = refuses 9 []; units = 9; board = 0 ∷ 9 ∷ [] }
-  pub up-to-600 : chosenBy 600 ≡ record { answer = finished 0; units = 10; board = 0 ∷ 0 ∷ [] }
+  pub above-600 : chosenBy Kind.Ordinary 1 601 ≡ record { answer = refuses 9 []; units = 9; board = 0 ∷ 9 ∷ [] }
+  pub up-to-600 : chosenBy Kind.Ordinary 1 600 ≡ record { answer = finished 0; units = 10; board = 0 ∷ 0 ∷ [] }
+  -- of a mirror job above 1,200
+  pub above-1200 : chosenBy Kind.Mirror 2 1201 ≡ record { answer = refuses 9 []; units = 9; board = 0 ∷ 0 ∷ 9 ∷ 9 ∷ [] }
+  pub up-to-1200 : chosenBy Kind.Mirror 2 1200 ≡ record { answer = finished 0; units = 10; board = 0 ∷ 0 ∷ 0 ∷ 0 ∷ [] }
   -- rows written into boards of 9s. Number 6 as row 2 of 3 cells: 1, 1, 0; as row 3 of a board of two it isn't written. Number 1 of two binary
   -- digits as row 1 of 4 cells: 0, 1 and their reflection
   pub row-of-6 : rowWrites 3 3 1 6 (replicate 6 9) ≡ 9 ∷ 9 ∷ 9 ∷ 1 ∷ 1 ∷ 0 ∷ []

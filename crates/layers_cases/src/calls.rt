@@ -82,7 +82,7 @@ pub fn whole(w: usize, apart: usize, seed: usize) -> Call {
     let down = random::below(2, seed, 3) == 0;
     let end = num::wrapping_add_usize(second, q);
     Call {
-        want: score_table::most_live(),
+        want: score_table::most_live(false),
         w,
         h,
         after: 1 + random::below(h - 1, seed, 4) % 60,

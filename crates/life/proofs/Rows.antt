@@ -162,5 +162,5 @@ steps-agree a = record { first = a .first; each = a .each; last = a .last }
 pub still-by-rows : (next : ℕ → ℕ) → next 0 ≡ 0 → StillByRowsBy next
 unfolding StillBy LeadsToBy
 still-by-rows next quiet w h cells b =
-    let j = steps-by-rows next quiet w h cells cells (b .bytes) (b .bytes) in
+    let j = steps-by-rows next quiet w h cells cells b b in
     (λ s. steps-agree (j .0 s), λ a. j .1 (agree-steps a))

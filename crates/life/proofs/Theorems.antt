@@ -1,7 +1,6 @@
 -- The theorems of `specs/Theorems`, proved: for every next-state table whose pattern 0 stays dead, and under every allowed rule by the neighbour count.
 -- Assumes nothing.
 use mathlib.Core.Path.{_≡_, refl, _∙_, sym, ap, ap₂}
-use mathlib.Core.Logic.{_↔_}
 use mathlib.Core.List.{List}
 use Prim.Native.Nat.{ℕ}
 use lib.Dec.{eqb}
@@ -14,7 +13,6 @@ use Rattle.rule.specs.Rule.{Allowed, nextUnder}
 use Rattle.rule.specs.declared.Rule.{Rule}
 use Rattle.rule.proofs.Rules.{dead-stays, conway-state}
 use Rattle.life.specs.Plane.{Plane, onPlane, neighbours, stepUnder, tableStep, Still, LeadsTo, StillBy, LeadsToBy}
-use Rattle.life.specs.Rows.{RowsAgree}
 use Rattle.life.specs.Calls.{lifeCheck, ringSize, stepRule, stepWrites, judged, judgeRule, verdictSays, still, changes}
 use Rattle.life.specs.declared.Verdict.{Verdict}
 use Rattle.life.specs.Theorems.{FirstChange, JudgeRightBy, LifeCheckRight, JudgeRight, StepRight, StillByRows, StepsByRows, ConwaySteps, ForEveryTable}
@@ -124,15 +122,11 @@ steps-life rule a w h cells target b t =
     let j = steps-by-rows (nextUnder rule) (dead-stays rule a) w h cells target b t in
     (λ s. j .0 (of-leads rule b (onPlane w h target) s), λ m. leads-of rule b (onPlane w h target) (j .1 m))
 
--- boards of any size are still by their rows
-pub rows-bytes : (rule : Rule) → Allowed rule → (w h : ℕ) (cells : List ℕ) → Bytes 1 w h cells → Still rule (onPlane w h cells) ↔ RowsAgree (nextUnder rule) w h cells
+pub rows-life : StillByRows
 unfolding Still LeadsTo
-rows-bytes rule a w h cells b =
+rows-life rule a w h cells b =
     let j = steps-life rule a w h cells cells b b in
     (λ s. steps-agree (j .0 s), λ m. j .1 (agree-steps m))
-
-pub rows-life : StillByRows
-rows-life rule a w h cells b = rows-bytes rule a w h cells (b .bytes)
 
 pub conway-steps : ConwaySteps
 conway-steps w h cells b r c = conway-state (onPlane w h cells r c) (neighbours (onPlane w h cells) r c) (plane-small (b .bytes) r c)

@@ -1,6 +1,6 @@
 -- Document 01, "Life's step", and Req 02: what stepping writes and what judging answers, for every input.
 -- Assumes nothing.
-use mathlib.Core.Bool.{Bool}
+use mathlib.Core.Bool.{Bool, false}
 use mathlib.Core.Option.{Option, none, some}
 use mathlib.Core.List.{List, [], _∷_}
 use Prim.Native.Nat.{ℕ, _+_, _*_, _/_, _%_}
@@ -30,7 +30,7 @@ keepsAt next w h cells k = eqb (nextAt next w h cells k) (onPlane w h cells (pos
 
 -- stepping and judging begin with 1, 2, 13, 5, 11
 unfoldable pub lifeCheck : Rule → ℕ → ℕ → List ℕ → Answer
-lifeCheck rule w h cells = gridCheck rule w h then cellsCheck w h cells
+lifeCheck rule w h cells = gridCheck false rule w h then cellsCheck w h cells
 
 -- ---- stepping
 -- the next pattern, ring included, as (w + 2) × (h + 2) bytes

@@ -39,9 +39,9 @@ abbrev pub StepRightBy : (ℕ → ℕ) → Type 0
 StepRightBy next =
     (w h : ℕ) (cells : List ℕ) (r c : ℤ) → onPlane (w + 2) (h + 2) (stepped next w h cells) (sucℤ r) (sucℤ c) ≡ tableStep next (onPlane w h cells) r c
 
--- a board is still exactly when its rows agree
+-- a board of any size is still exactly when its rows agree
 abbrev pub StillByRowsBy : (ℕ → ℕ) → Type 0
-StillByRowsBy next = (w h : ℕ) (cells : List ℕ) → Board w h cells → StillBy next (onPlane w h cells) ↔ RowsAgree next w h cells
+StillByRowsBy next = (w h : ℕ) (cells : List ℕ) → Bytes 1 w h cells → StillBy next (onPlane w h cells) ↔ RowsAgree next w h cells
 
 -- one step makes a board of any size the target exactly when its rows step to the target's
 abbrev pub StepsByRowsBy : (ℕ → ℕ) → Type 0
@@ -71,11 +71,11 @@ StepRight =
     (rule : Rule) (w h : ℕ) (cells ring : List ℕ) → stepRule rule w h cells (length ring) ≡ passed →
     (r c : ℤ) → onPlane (w + 2) (h + 2) (stepWrites rule w h cells ring) (sucℤ r) (sucℤ c) ≡ stepUnder rule (onPlane w h cells) r c
 
--- a board is still exactly when its rows agree
+-- a board of any size is still exactly when its rows agree
 abbrev pub StillByRows : Type 0
 StillByRows =
     (rule : Rule) → Allowed rule →
-    (w h : ℕ) (cells : List ℕ) → Board w h cells → Still rule (onPlane w h cells) ↔ RowsAgree (nextUnder rule) w h cells
+    (w h : ℕ) (cells : List ℕ) → Bytes 1 w h cells → Still rule (onPlane w h cells) ↔ RowsAgree (nextUnder rule) w h cells
 
 -- one step makes a board of any size the target, every other cell of the plane dead, exactly when its rows step to the target's
 abbrev pub StepsByRows : Type 0

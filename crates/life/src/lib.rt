@@ -49,7 +49,7 @@ pub fn judge(rule: Rule, w: usize, h: usize, cells: &[u8]) -> Verdict
 fn check_life(rule: Rule, w: usize, h: usize, cells: &[u8]) -> Check
     ensures { λ r. ⌜ checkSays r ≡ lifeCheck rule w h (now (cells .entry)) ⌝ }
 {
-    if let Check::Refused(r) = rule::check(rule, w, h) {
+    if let Check::Refused(r) = rule::check(false, rule, w, h) {
         return Check::Refused(r);
     }
     board::check_cells(w, h, cells)

@@ -165,7 +165,7 @@ round-trip w h board text text′ n c front cells cells′ r room d =
     let good : firstBad (judged (front ++ take n text′) (length front)) ≡ none = rw (lines w h board text text′ n c front) (none-bad (boardRows w h board)) in
     let high = board-high w h board in
     let wide = board-wide w h board (s .some-row) (b .bytes .long) in
-    let checks : sizeCheck w h ≡ passed = size-passes s in
+    let checks : sizeCheck false w h ≡ passed = size-passes s in
     let fits = then-gives (widthCheck w) (heightCheck h) checks in
     let answer : readRule (front ++ take n text′) (length front) (length cells) ≡ gives (w ∷ h ∷ [])
     = rw (good, rows, high, wide, fits .1, fits .0 .1, le-leb _ _ room) in (

@@ -1,5 +1,7 @@
 // Tries the refusals of opening, working, pausing and resuming: each once, and their order, for a call that breaks several rules answers the first.
-// Prints each answer, the job that a working call hands back, and how much it has written. Ordinary jobs come first, then those of two layers.
+// Prints each answer, the job that a working call hands back, and how much it has written. Ordinary jobs come first, then those of two layers,
+// then those of mirror boards.
+mod mirror_boards;
 mod numbers;
 mod openings;
 mod rounds;
@@ -43,4 +45,17 @@ fn main() {
     rounds::ordinary();
     spoiling::two_layers();
     spoiling::halves();
+    openings::mirror_boards();
+    openings::mirror_order();
+    openings::lopsided();
+    mirror_boards::order();
+    mirror_boards::memory();
+    mirror_boards::passes();
+    mirror_boards::spoiled();
+    mirror_boards::kinds();
+    mirror_boards::widths();
+    mirror_boards::lengths();
+    mirror_boards::rows();
+    mirror_boards::limits();
+    mirror_boards::pauses();
 }

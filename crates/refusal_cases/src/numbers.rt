@@ -88,6 +88,7 @@ fn print_ready(job: Job) {
     match kind {
         Kind::Ordinary => report::line(b": a job at unit ", job.units),
         Kind::TwoLayers => report::line(b": a job of two layers at unit ", job.units),
+        Kind::Mirror => report::line(b": a job of mirror boards at unit ", job.units),
     }
 }
 

@@ -148,6 +148,125 @@ pub fn two_layers() {
     open_two(b"open, two layers, 10 by 60", 8, 10, 60, &[0; 600]);
 }
 
+// Openings of jobs of mirror boards with widths that they refuse, and each with all the other faults, and at the limits.
+pub fn mirror_boards() {
+    open_wide(b"open, mirror boards, width 0, and all below", 0);
+    open_wide(b"open, mirror boards, width 1, and all below", 1);
+    open_wide(b"open, mirror boards, width 3, and all below", 3);
+    open_wide(b"open, mirror boards, width 19, and all below", 19);
+    open_wide(b"open, mirror boards, width 21, and all below", 21);
+    open_wide(b"open, mirror boards, width 22, and all below", 22);
+    open_mirror(b"open, mirror boards, 2 by 1", 8, 2, 1, &[0; 2]);
+    open_mirror(b"open, mirror boards, 2 by 60", 8, 2, 60, &[0; 120]);
+    open_mirror(b"open, mirror boards, 12 by 1", 8, 12, 1, &[0; 12]);
+    open_mirror(b"open, mirror boards, 20 by 60", 8, 20, 60, &[0; 1200]);
+    open_mirror(b"open, mirror boards, 20 by 61", 8, 20, 61, &[0; 1220]);
+    open_mirror(b"open, mirror boards, 22 by 60", 8, 22, 60, &[0; 1320]);
+}
+
+fn open_wide(name: &[u8], w: usize) {
+    open_mirror(name, 9, w, 61, &[2, 2, 2, 3]);
+}
+
+// Openings of those of 4 by 2, each of which breaks the rule that it names and those checked after it.
+pub fn mirror_order() {
+    open_mirror(
+        b"open, mirror boards, height 0, and all below",
+        9,
+        4,
+        0,
+        &[2, 2, 2, 3],
+    );
+    open_mirror(
+        b"open, mirror boards, height 61, and all below",
+        9,
+        4,
+        61,
+        &[2, 2, 2, 3],
+    );
+    open_mirror(
+        b"open, mirror boards, births 9, and all below",
+        9,
+        4,
+        2,
+        &[2, 2, 2, 3],
+    );
+    open_halves(
+        b"open, mirror boards, 7 givens of 8, and all below",
+        &[2, 2, 2, 0, 3, 0, 0],
+    );
+    open_halves(
+        b"open, mirror boards, 9 givens of 8, and all below",
+        &[2, 2, 2, 0, 3, 0, 0, 0, 0],
+    );
+    open_halves(
+        b"open, mirror boards, row 1 given live but its last, a mark 3",
+        &[2, 2, 2, 0, 0, 3, 0, 0],
+    );
+    open_halves(
+        b"open, mirror boards, row 1 given live but its last",
+        &[2, 2, 2, 0, 0, 0, 0, 0],
+    );
+    open_mirror(
+        b"open, mirror boards, row 1 given live but its last, births on 2",
+        4,
+        4,
+        2,
+        &[2, 2, 2, 0, 0, 0, 0, 0],
+    );
+    open_halves(
+        b"open, mirror boards, row 1 given live",
+        &[2, 2, 2, 2, 0, 0, 0, 0],
+    );
+    open_halves(b"open, mirror boards, 4 by 2", &[0, 1, 1, 0, 2, 0, 0, 2]);
+}
+
+// Lopsided grids of 4 by 2, and what other kinds of job make of the last.
+pub fn lopsided() {
+    open_halves(
+        b"open, mirror boards, the first dead, its reflection free",
+        &[1, 0, 0, 0, 0, 0, 0, 0],
+    );
+    open_halves(
+        b"open, mirror boards, the first free, its reflection live",
+        &[0, 0, 0, 2, 0, 0, 0, 0],
+    );
+    open_halves(
+        b"open, mirror boards, the second live, its reflection dead",
+        &[0, 2, 1, 0, 0, 0, 0, 0],
+    );
+    open_halves(
+        b"open, mirror boards, the second of row 2 free, its reflection dead",
+        &[2, 1, 1, 2, 0, 0, 1, 0],
+    );
+    open_halves(
+        b"open, mirror boards, the first of row 2 dead, its reflection live",
+        &[2, 1, 1, 2, 1, 0, 0, 2],
+    );
+    open_halves(
+        b"open, mirror boards, the second of row 1 and the first of row 2",
+        &[2, 1, 0, 2, 2, 0, 0, 0],
+    );
+    let alike = [1, 2, 0, 0, 1, 2, 0, 0];
+    open_halves(b"open, mirror boards, two rows alike", &alike);
+    open_marked(b"open, two rows alike", 4, 2, &alike);
+    open_two(b"open, two layers, two rows alike", 8, 4, 2, &alike);
+}
+
+// An opening for a job of mirror boards of 4 by 2 under Conway's rule.
+fn open_halves(name: &[u8], givens: &[u8]) {
+    open_mirror(name, 8, 4, 2, givens);
+}
+
+fn open_mirror(name: &[u8], births: usize, w: usize, h: usize, givens: &[u8]) {
+    let rule = Rule {
+        births,
+        survivals: 12,
+    };
+    report::text(name);
+    numbers::print_result(job::open(Kind::Mirror, rule, w, h, givens));
+}
+
 fn open_two(name: &[u8], births: usize, w: usize, h: usize, givens: &[u8]) {
     let rule = Rule {
         births,

@@ -101,7 +101,7 @@ fn paused(height: usize, units: usize, mark: usize) -> Checkpoint {
     }
 }
 
-fn with_rows(numbers: Checkpoint, above: usize, last: usize, live: usize) -> Checkpoint {
+pub fn with_rows(numbers: Checkpoint, above: usize, last: usize, live: usize) -> Checkpoint {
     let mut t = numbers;
     t.above = above;
     t.last = last;
@@ -117,12 +117,13 @@ fn resume_two(numbers: Checkpoint) {
     resume(Kind::TwoLayers, numbers);
 }
 
-fn resume(kind: Kind, numbers: Checkpoint) {
+pub fn resume(kind: Kind, numbers: Checkpoint) {
     report::text(b"resume");
     print_numbers(numbers);
     match kind {
         Kind::Ordinary => report::text(b", as ordinary"),
         Kind::TwoLayers => report::text(b", as two layers"),
+        Kind::Mirror => report::text(b", as mirror boards"),
     }
     match numbers.resume(kind) {
         JobResult::Ready(job) => {
@@ -245,7 +246,7 @@ fn as_ordinary(job: Job) -> Job {
     numbers::job_at(Kind::Ordinary, 2, 3, job.units, stage)
 }
 
-fn pause(job: Job) {
+pub fn pause(job: Job) {
     report::text(b"pause, ");
     workings::print_fields(job);
     match job.pause() {

@@ -156,6 +156,7 @@ pub fn print_fields(job: Job) {
     match kind {
         Kind::Ordinary => report::text(b"job: "),
         Kind::TwoLayers => report::text(b"job of two layers: "),
+        Kind::Mirror => report::text(b"job of mirror boards: "),
     }
     report::number(job.width);
     report::text(b" by ");

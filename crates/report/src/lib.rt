@@ -35,6 +35,7 @@ pub fn refusal(r: Refusal) {
         Refusal::Letter(place) => line(b" at ", place),
         Refusal::Cell(place) => line(b" at ", place),
         Refusal::EdgeThree(place) => line(b" at ", place),
+        Refusal::Lopsided(place) => line(b" at ", place),
         _ => text(b"\n"),
     }
 }

@@ -1,7 +1,7 @@
 -- Laws of rules: which are allowed, next states under them, and Conway's as Life's.
 -- Assumes nothing.
 use mathlib.Core.Path.{_≡_, refl, _∙_, sym, ap}
-use mathlib.Core.Bool.{true, _&&_}
+use mathlib.Core.Bool.{Bool, true, _&&_}
 use mathlib.Core.List.{List}
 use Prim.Native.Nat.{ℕ, zero, suc, _+_, _-_, _/_, _%_, _^_, _<_, _≤_}
 use native.Mathlib.Nat.{div-eq-of-lt, zero-div, div-one, not-suc-le-zero, le-of-suc-le-suc}
@@ -10,10 +10,10 @@ use borrow.Author.Tests.{eqb-true, leb-true, eq-eqb, ne-eqb, le-leb, lt-leb}
 use lib.Dec.{eqb, leb}
 use lib.Pow.{shr-shr}
 use Rattle.board.specs.Answers.{gives, passed, refuseUnless, Checked}
-use Rattle.board.specs.Boards.{Sized}
+use Rattle.board.specs.Boards.{SizedBy}
 use Rattle.board.specs.Checks.{sizeCheck}
 use Rattle.board.proofs.Answers.{unless-gives, then-gives, checked-then, checked-unless}
-use Rattle.board.proofs.Checks.{sized, size-passes, size-checked}
+use Rattle.board.proofs.Checks.{sized-by, size-passes-by, size-checked}
 use Rattle.board.proofs.Tests.{and-left, and-right}
 use Rattle.rule.specs.Rule.{hasCount, stateUnder, nextState, Allowed, ruleFits, ruleCheck, gridCheck, conwayRule, digit, liveAround, nextUnder, conway}
 use Rattle.rule.specs.Theorems.{RuleCheckRight, ConwaysRule, DeadStays}
@@ -73,17 +73,19 @@ module _ (rule : Rule) where
   rule-passes a = rw (allowed-fits a)
 
   -- 1, 2, 13
-  pub grid-allowed : (w h : ℕ) {vs : List ℕ} → gridCheck rule w h ≡ gives vs → Sized w h × Allowed rule
-  unfolding gridCheck
-  grid-allowed w h e = let p = then-gives (sizeCheck w h) (ruleCheck rule) e in (sized w h (p .0 .1), rule-allowed (p .1))
+  module _ (halves : Bool) where
+    pub grid-allowed : (w h : ℕ) {vs : List ℕ} → gridCheck halves rule w h ≡ gives vs → SizedBy halves w h × Allowed rule
+    unfolding gridCheck
+    grid-allowed w h e = let p = then-gives (sizeCheck halves w h) (ruleCheck rule) e in (sized-by halves w h (p .0 .1), rule-allowed (p .1))
 
-  pub grid-passes : {w h : ℕ} → Sized w h → Allowed rule → gridCheck rule w h ≡ passed
-  unfolding gridCheck
-  grid-passes s a = rw (size-passes s) (rule-passes a)
+    pub grid-passes : {w h : ℕ} → SizedBy halves w h → Allowed rule → gridCheck halves rule w h ≡ passed
+    unfolding gridCheck
+    grid-passes s a = rw (size-passes-by halves s) (rule-passes a)
 
-  pub grid-checked : (n w h : ℕ) → (1 ≡ n → ⊥) → (2 ≡ n → ⊥) → (13 ≡ n → ⊥) → Checked n (gridCheck rule w h)
-  unfolding gridCheck ruleCheck
-  grid-checked n w h p q r = checked-then n (sizeCheck w h) (refuseUnless (ruleFits rule) 13) (size-checked n w h p q) (checked-unless n (ruleFits rule) 13 r)
+    pub grid-checked : (n w h : ℕ) → (1 ≡ n → ⊥) → (2 ≡ n → ⊥) → (13 ≡ n → ⊥) → Checked n (gridCheck halves rule w h)
+    unfolding gridCheck ruleCheck
+    grid-checked n w h p q r =
+        checked-then n (sizeCheck halves w h) (refuseUnless (ruleFits rule) 13) (size-checked halves n w h p q) (checked-unless n (ruleFits rule) 13 r)
 
   -- ---- next states
   -- pattern 0 is a dead cell with no live neighbour

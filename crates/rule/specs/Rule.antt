@@ -34,9 +34,9 @@ ruleFits rule = eqb (rule .births % 2) 0 && leb (rule .births) 511 && leb (rule 
 unfoldable pub ruleCheck : Rule → Answer
 ruleCheck rule = refuseUnless (ruleFits rule) 13
 
--- opening, stepping and judging begin with 1, 2, 13
-unfoldable pub gridCheck : Rule → ℕ → ℕ → Answer
-gridCheck rule w h = sizeCheck w h then ruleCheck rule
+-- opening, stepping and judging begin with 1, 2, 13, the first by how rows are held
+unfoldable pub gridCheck : Bool → Rule → ℕ → ℕ → Answer
+gridCheck halves rule w h = sizeCheck halves w h then ruleCheck rule
 
 -- Conway's: births 3, survivals 2 and 3
 abbrev pub conwayRule : Rule

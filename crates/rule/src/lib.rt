@@ -41,11 +41,11 @@ pub fn check_rule(rule: Rule) -> Check
     Check::Passed
 }
 
-// 1, 2, 13: the size, then the rule.
-pub fn check(rule: Rule, w: usize, h: usize) -> Check
-    ensures { λ r. ⌜ checkSays r ≡ gridCheck rule w h ⌝ }
+// 1, 2, 13: the size by how rows are held, then the rule.
+pub fn check(halves: bool, rule: Rule, w: usize, h: usize) -> Check
+    ensures { λ r. ⌜ checkSays r ≡ gridCheck halves rule w h ⌝ }
 {
-    if let Check::Refused(r) = board::check_size(w, h) {
+    if let Check::Refused(r) = board::check_size(halves, w, h) {
         return Check::Refused(r);
     }
     check_rule(rule)

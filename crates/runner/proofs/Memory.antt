@@ -9,7 +9,7 @@ use lib.ListN.{length}
 use Rattle.board.specs.Answers.{passed}
 use Rattle.rule.specs.declared.Rule.{Rule}
 use Rattle.board.specs.Checks.{tableSize}
-use Rattle.job.specs.Jobs.{layersOf, start, readCheck}
+use Rattle.job.specs.Jobs.{kindDigits, layersOf, start, readCheck}
 use Rattle.service.specs.Service.{next, spoiled, onStep, worksOn, workCheck}
 use Rattle.solver.specs.Working.{lentCheck}
 use Rattle.solver.specs.Units.{State, Step, unitOf, grid}
@@ -21,16 +21,16 @@ use Rattle.solver.proofs.UnitLaws.{unit-fits, unit-lent}
 use Rattle.runner.specs.Solving.{memoryCheck}
 
 -- ---- an opened job
-pub start-check : (kind : Kind) {rule : Rule} {w h : ℕ} → Frame rule w h → (g : List ℕ) → readCheck rule w h g ≡ passed → (t β : List ℕ)
+pub start-check : {kind : Kind} {rule : Rule} {w h : ℕ} → Frame kind rule w h → (g : List ℕ) → readCheck kind rule w h g ≡ passed → (t β : List ℕ)
     → workCheck grid (start kind rule w h) g t β ≡ memoryCheck kind w h t β
 unfolding workCheck lentCheck memoryCheck
-start-check kind z g read t β = rw (start-fits kind z, read)
+start-check {kind} z g read t β = rw (start-fits kind z, read)
 
 -- ---- a call that passes
-pub check-passes : (j : Job) (g t β : List ℕ) → readCheck (j .rule) (j .width) (j .height) g ≡ passed → Lent j g t β → workCheck grid j g t β ≡ passed
+pub check-passes : (j : Job) (g t β : List ℕ) → readCheck (j .kind) (j .rule) (j .width) (j .height) g ≡ passed → Lent j g t β → workCheck grid j g t β ≡ passed
 unfolding workCheck lentCheck
 check-passes j g t β read L =
-    rw (L .taken, read, eq-eqb (length β) (j .width * j .height) (L .cells), le-leb (tableSize (j .width) (layersOf (j .kind) (j .height))) (length t) (L .entries))
+    rw (L .taken, read, eq-eqb (length β) (j .width * j .height) (L .cells), le-leb (tableSize (kindDigits (j .kind) (j .width)) (layersOf (j .kind) (j .height))) (length t) (L .entries))
 
 -- a state of the same kind, rule and grid that passes again
 pub record Kept (g : List ℕ) (s s′ : State) : Type 0 where

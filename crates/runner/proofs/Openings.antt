@@ -8,8 +8,8 @@ use Rattle.board.specs.declared.Refusal.{Refusal}
 use Rattle.board.proofs.Answers.{refuses-none}
 use Rattle.rule.specs.Rule.{gridCheck}
 use Rattle.rule.specs.declared.Rule.{Rule}
-use Rattle.rule.proofs.Rules.{grid-passes}
-use Rattle.job.specs.Jobs.{start, jobSays, readCheck, openRule, jobResultSays}
+use Rattle.job.specs.Jobs.{start, jobSays, halvesOf, readCheck, openRule, jobResultSays}
+use Rattle.job.proofs.Fits.{frame-passes}
 use Rattle.job.proofs.ReadChecks.{opening-shows}
 use Rattle.job.specs.Calls.{Opens}
 use Rattle.job.specs.declared.Kind.{Kind}
@@ -29,7 +29,7 @@ module _ {kind : Kind} {rule : Rule} {w h : ℕ} {g : List ℕ} {o : JobResult} 
   unfolding openRule solveCheck
   refused-solves {r} e t β =
       let c : solveCheck kind rule w h g t β ≡ refusalSays r =
-      refused-then (gridCheck rule w h) (readCheck rule w h g) (jobSays (start kind rule w h)) (sym (ap jobResultSays e) ∙ O .says) (memoryCheck kind w h t β) in record {
+      refused-then (gridCheck (halvesOf kind) rule w h) (readCheck kind rule w h g) (jobSays (start kind rule w h)) (sym (ap jobResultSays e) ∙ O .says) (memoryCheck kind w h t β) in record {
         comes = record {
           turned = λ n values q. (sym c ∙ q, refl, refl);
           ended = λ q. absurd (refuses-none (sym c ∙ q));
@@ -45,5 +45,5 @@ module _ {kind : Kind} {rule : Rule} {w h : ℕ} {g : List ℕ} {o : JobResult} 
     pub run-solves : {t β t′ β′ : List ℕ} {r : Solved} → Runs j g t β r t′ β′ → Solves kind rule w h g t β r t′ β′
     unfolding solveCheck
     run-solves R =
-        let z = opening-shows rule w h g kind (sym (O .says) ∙ ap jobResultSays e) in
-        record { comes = rw (grid-passes rule (z .0 .size) (z .0 .allowed), z .1) (rw (O .job j e) at (R .comes)) }
+        let z = opening-shows kind rule w h g (sym (O .says) ∙ ap jobResultSays e) in
+        record { comes = rw (frame-passes (z .0), z .1) (rw (O .job j e) at (R .comes)) }

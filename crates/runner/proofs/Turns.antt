@@ -96,10 +96,11 @@ module _ {kind : Kind} {rule : Rule} {w h : ℕ} {g t₀ β₀ : List ℕ} {n : 
       go false e = absurd (f (T .under (leb-false (T .long) (r .state .job .units) e)))
 
 -- the table in the end, from what the units of the job's length leave
-table-ends : (kind : Kind) (rule : Rule) (w h : ℕ) (g : List ℕ) → 0 < h → (long : ℕ) → noneLength w h ≤ long → long ≤ boardLength kind w h → (t₀ t : List ℕ)
+table-ends : (kind : Kind) (rule : Rule) (w h : ℕ) (g : List ℕ) → 0 < h → (long : ℕ) → noneLength kind w h ≤ long → long ≤ boardLength kind w h → (t₀ t : List ℕ)
     → TableAfter kind rule w h g long t₀ t → TableEnds kind rule w h g long t₀ t
-table-ends Kind.Ordinary rule w h g high long some most t₀ t F = rw (entries-all w h long high some most) at F
+table-ends Kind.Ordinary rule w h g high long some most t₀ t F = rw (entries-all Kind.Ordinary w h long refl high some most) at F
 table-ends Kind.TwoLayers rule w h g high long some most t₀ t F = F
+table-ends Kind.Mirror rule w h g high long some most t₀ t F = rw (entries-all Kind.Mirror w h long refl high some most) at F
 
 -- what a turn that ends nothing leaves
 pub record Goes (kind : Kind) (rule : Rule) (w h : ℕ) (g t₀ β₀ : List ℕ) (s s′ : State) : Type 0 where
@@ -134,11 +135,11 @@ solved-ends Solved.Infeasible e = let z : _≡_ {A = ℕ} 0 1 = cc in omega arit
 solved-ends (Solved.Refused r) e = refuses-none e
 
 module _ {kind : Kind} {rule : Rule} {w h : ℕ} {g : List ℕ} (O : Opens kind rule w h g (JobResult.Ready (start kind rule w h))) (t₀ β₀ : List ℕ) where
-  opened-frame : Frame rule w h
-  opened-frame = opening-shows rule w h g kind (sym (O .says)) .0
+  opened-frame : Frame kind rule w h
+  opened-frame = opening-shows kind rule w h g (sym (O .says)) .0
 
-  opened-read : readCheck rule w h g ≡ passed
-  opened-read = opening-shows rule w h g kind (sym (O .says)) .1
+  opened-read : readCheck kind rule w h g ≡ passed
+  opened-read = opening-shows kind rule w h g (sym (O .says)) .1
 
   abbrev s₀ : State
   s₀ = opened kind rule w h t₀ β₀
@@ -156,7 +157,7 @@ module _ {kind : Kind} {rule : Rule} {w h : ℕ} {g : List ℕ} (O : Opens kind 
     ruled = refl;
     width = refl;
     height = refl;
-    check = start-check kind opened-frame g opened-read t₀ β₀;
+    check = start-check opened-frame g opened-read t₀ β₀;
     same = λ n values e. (refl, refl);
   }
 
@@ -211,8 +212,8 @@ module _ {kind : Kind} {rule : Rule} {w h : ℕ} {g : List ℕ} (O : Opens kind 
               best (rw q (O .wanted)) (e ∙ O .says ∙ ap (λ (b : List ℕ). finished (score w h g b)) (sym q)) (table-ends kind rule w h g high (boardLength kind w h) (shorter kind w h high) (omega arith) t₀ t F))
               S
           go (unsolvable f S) =
-              served-turns (noneLength w h) infeasible β₀ (shorter kind w h high) (λ e. let z : _≡_ {A = ℕ} 0 1 = cc in omega arith)
-              (λ says t β e F q. none f e q (table-ends kind rule w h g high (noneLength w h) (omega arith) (shorter kind w h high) t₀ t F)) S
+              served-turns (noneLength kind w h) infeasible β₀ (shorter kind w h high) (λ e. let z : _≡_ {A = ℕ} 0 1 = cc in omega arith)
+              (λ says t β e F q. none f e q (table-ends kind rule w h g high (noneLength kind w h) (omega arith) (shorter kind w h high) t₀ t F)) S
 
     -- a turn that ends nothing passed its checks
     unfinished-passed : turn g n s .answer ≡ unfinished → checkIn g s ≡ passed
@@ -241,7 +242,7 @@ module _ {kind : Kind} {rule : Rule} {w h : ℕ} {g : List ℕ} (O : Opens kind 
             width = K .width ∙ P .width;
             height = K .height ∙ P .height;
             check =
-                check-passes (turn g n s .state .job) g (turn g n s .state .table) (turn g n s .state .board) (rw (K .ruled ∙ P .ruled, K .width ∙ P .width, K .height ∙ P .height) opened-read)
+                check-passes (turn g n s .state .job) g (turn g n s .state .table) (turn g n s .state .board) (rw (K .kind ∙ P .kept, K .ruled ∙ P .ruled, K .width ∙ P .width, K .height ∙ P .height) opened-read)
                 (K .lent)
                 ∙ sym c;
             same = λ k values e. absurd (refuses-none (sym e ∙ c));

@@ -7,7 +7,7 @@ use rule::Rule;
 use solver::Status;
 ghost use Rattle.runner.specs.Solving.{Solves, Runs, Ready};
 
-// The best board's score, or that no still board keeps the givens.
+// The best board's score, or that no still board keeps the givens, of a mirror job no mirror board.
 pub enum Solved {
     Best(usize),
     Infeasible,
@@ -17,8 +17,8 @@ pub enum Solved {
 // The units that a working call is allowed.
 const ALLOWANCE: u32 = 1000;
 
-// Solves a grid of givens under a rule, by a job of a kind: leaves the best still board that keeps them, first in board order among the best, in
-// `board`, over a table with room for the kind's layers. Refusals 1, 2, 13, 3, 4, 14 as opening, then 5, 6 as working.
+// Solves a grid of givens under a rule, by a job of a kind: leaves the best still board that keeps them, or the best mirror board, first in board order
+// among the best, in `board`, over a table with room for the kind's layers. Refusals 1, 2, 13, 3, 4, 14, 15 as opening, then 5, 6 as working.
 pub fn solve(
     kind: Kind,
     rule: Rule,

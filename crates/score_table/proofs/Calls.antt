@@ -3,21 +3,21 @@
 use mathlib.Core.Path.{_≡_, refl, _∙_, sym, ap}
 use mathlib.Core.Bool.{Bool, true, false, cond, _&&_}
 use mathlib.Core.List.{List}
-use Prim.Native.Nat.{ℕ, suc, _+_, _-_, _*_, _%_, _^_, _<_, _≤_}
+use Prim.Native.Nat.{ℕ, suc, _+_, _-_, _*_, _^_, _<_, _≤_}
 use native.Mathlib.Omega.{arith}
 use borrow.Author.Tests.{le-leb, lt-leb, lt-ltb, le-ltb, eq-eqb, ne-eqb, leb-true, leb-false, ltb-true, ltb-false, eqb-true, eqb-false}
 use lib.Dec.{eqb, leb, ltb}
 use lib.ListN.{length}
-use Rattle.board.specs.Boards.{maxWidth, maxHeight}
+use Rattle.board.specs.Boards.{maxHeight, maxMirrorWidth, widthFits}
 use Rattle.board.proofs.Tests.{and-left, and-right}
 use Rattle.elimination.specs.Candidates.{Choice, nothing, chosen}
 use Rattle.elimination.specs.Kind.{choose}
 use Rattle.elimination.specs.Table.{reads, fillEntries}
-use Rattle.score_table.specs.Rows.{rowWorth, rowKept, rowGain, widest, digitsOf, rowFor}
+use Rattle.board.proofs.Widths.{width-le, width-of, width-fits}
+use Rattle.score_table.specs.Rows.{rowWorth, rowKept, rowGain, digitsOf, rowFor}
 use Rattle.score_table.specs.ScoreTable.{absent, kindFor}
-use Rattle.score_table.specs.Inner.{Width, Memory, EntriesRead}
-use Rattle.score_table.specs.Calls.{widthFits, gridFits, callFits, layerFits, fillFits, fillWrites, gainOf, rowPicked, pickedOf}
-use Rattle.score_table.proofs.WholeRows.{width-digits, width-le}
+use Rattle.score_table.specs.Inner.{Memory, EntriesRead}
+use Rattle.score_table.specs.Calls.{gridFits, callFits, layerFits, fillFits, fillWrites, gainOf, rowPicked, pickedOf}
 use Rattle.score_table.specs.declared.Want.{Want}
 use Rattle.score_table.specs.declared.Picked.{Picked}
 
@@ -32,23 +32,6 @@ layer-within bits n at l = go (leb at (n - 4 ^ bits)) refl
     go true e = e ∙ sym (le-leb (at + 4 ^ bits) n (omega (arith, leb-true at (n - 4 ^ bits) e)))
     go false e = e ∙ sym (lt-leb (at + 4 ^ bits) n (omega (arith, leb-false at (n - 4 ^ bits) e)))
 
--- ---- a width, as the code tests it
-pub width-odd : (w : ℕ) → (w % 2 ≡ 0 → ⊥) → false ≡ widthFits true w
-width-odd w n = rw (ne-eqb (w % 2) 0 n)
-
-pub width-even : (w : ℕ) → w % 2 ≡ 0 → leb w widest ≡ widthFits true w
-width-even w e = rw (eq-eqb (w % 2) 0 e)
-
-width-of : (halves : Bool) (w : ℕ) → widthFits halves w ≡ true → Width halves w
-width-of true w e =
-    let even = eqb-true (w % 2) 0 (and-left (eqb (w % 2) 0) (leb w widest) e) in
-    record { narrow = omega (arith, leb-true w widest (and-right (eqb (w % 2) 0) (leb w widest) e)); even = λ _. even }
-width-of false w e = width-digits (leb-true w maxWidth e)
-
-width-fits : (halves : Bool) (w : ℕ) → Width halves w → widthFits halves w ≡ true
-width-fits true w W = rw (eq-eqb (w % 2) 0 (W .even refl), le-leb w widest (width-le true w W))
-width-fits false w W = le-leb w maxWidth (W .narrow)
-
 module _ (halves : Bool) (w h : ℕ) (g : List ℕ) where
   pub grid-wide : widthFits halves w ≡ false → false ≡ gridFits halves w h g
   unfolding gridFits
@@ -56,7 +39,7 @@ module _ (halves : Bool) (w h : ℕ) (g : List ℕ) where
 
   module _ (e : widthFits halves w ≡ true) where
     -- a width that fits is at most 20
-    pub grid-narrow : w ≤ widest
+    pub grid-narrow : w ≤ maxMirrorWidth
     grid-narrow = width-le halves w (width-of halves w e)
 
     pub grid-tall : maxHeight < h → false ≡ gridFits halves w h g

@@ -12,7 +12,7 @@ use Rattle.elimination.specs.Task.{row}
 use Rattle.elimination.specs.FillThenChoose.{fillAt, plan}
 use Rattle.elimination.specs.TwoLayers as Two
 use Rattle.elimination.proofs.TwoLayers as Twos
-use Rattle.score_table.specs.ScoreTable.{entryPlace, unitPlace, halfPlace, InPlace, PlacesRight, HalvesRight}
+use Rattle.score_table.specs.ScoreTable.{entryPlace, unitPlace, twoLayerPlace, InPlace, PlacesRight, TwoLayersRight}
 use Rattle.board.proofs.Powers.{four-two}
 
 -- the place that a unit writes, by its layer and its place there
@@ -49,21 +49,21 @@ places-right w h u = go (ltb u (h * q))
     go false = λ b c. let f : u - h * (2 ^ w * 2 ^ w) + 1 - 1 ≡ u - h * (2 ^ w * 2 ^ w) = omega arith in rw (four, f) (omega arith)
 
 -- ---- those of the plan over two layers in their halves
-pub halves-right : HalvesRight
-unfolding halfPlace
-halves-right w h u l = go (Twos.does h (2 ^ w * 2 ^ w) u l)
+pub two-layers-right : TwoLayersRight
+unfolding twoLayerPlace
+two-layers-right w h u l = go (Twos.does h (2 ^ w * 2 ^ w) u l)
   where
     four : 4 ^ w ≡ 2 ^ w * 2 ^ w
     four = four-two w
 
-    filled : (m : ℕ) → InPlace (halfPlace w) w h (Two.fillIn h (2 ^ w * 2 ^ w) m)
+    filled : (m : ℕ) → InPlace (twoLayerPlace w) w h (Two.fillIn h (2 ^ w * 2 ^ w) m)
     filled m =
         let j = m % (2 ^ w * 2 ^ w) in
         let d : j / 2 ^ w * 2 ^ w + j % 2 ^ w ≡ j = div-add-mod' j (2 ^ w) in
         (rw four (omega arith), λ b c. rw four (omega arith))
 
-    go : Twos.Does h (2 ^ w * 2 ^ w) u → InPlace (halfPlace w) w h (Two.plan h (2 ^ w * 2 ^ w) u)
+    go : Twos.Does h (2 ^ w * 2 ^ w) u → InPlace (twoLayerPlace w) w h (Two.plan h (2 ^ w * 2 ^ w) u)
     go (Twos.fills r m lr lm is) =
-        subst (InPlace (halfPlace w) w h) (sym (ap (Two.plan h (2 ^ w * 2 ^ w)) is ∙ Twos.plan-fill h (2 ^ w * 2 ^ w) r m lr lm)) (filled m)
+        subst (InPlace (twoLayerPlace w) w h) (sym (ap (Two.plan h (2 ^ w * 2 ^ w)) is ∙ Twos.plan-fill h (2 ^ w * 2 ^ w) r m lr lm)) (filled m)
     go (Twos.chooses r lr is) =
-        subst (InPlace (halfPlace w) w h) (sym (ap (Two.plan h (2 ^ w * 2 ^ w)) is ∙ Twos.plan-row h (2 ^ w * 2 ^ w) r lr)) (λ b c. rw four (omega arith))
+        subst (InPlace (twoLayerPlace w) w h) (sym (ap (Two.plan h (2 ^ w * 2 ^ w)) is ∙ Twos.plan-row h (2 ^ w * 2 ^ w) r lr)) (λ b c. rw four (omega arith))

@@ -1,15 +1,14 @@
 -- Laws of rows that are held as their left halves: a whole row's cells and its leading digits, the loop that forms its number, and what holds of the
 -- row that a number stands for, a half or not.
 -- Assumes nothing.
-use mathlib.Core.Path.{_≡_, refl, _∙_, sym, ap}
-use mathlib.Core.Bool.{Bool, true, false, cond, false≢true}
+use mathlib.Core.Path.{_≡_, _∙_, sym, ap}
+use mathlib.Core.Bool.{Bool, true, false, cond}
 use mathlib.Core.List.{List}
 use Prim.Native.Nat.{ℕ, suc, _+_, _*_, _-_, _/_, _%_, _^_, _<_, _≤_}
 use native.Mathlib.Nat.{div-one}
 use native.Mathlib.Omega.{arith}
 use native.Mathlib.Decide.{decLt}
 use lib.ListN.{getD, List·getD-eq-default}
-use Rattle.board.specs.Boards.{maxWidth}
 use Rattle.board.specs.Lists.{listed}
 use Rattle.board.proofs.Lists.{length-listed, getD-listed}
 use Rattle.life.specs.Rows.{rowNumber, digitAt, digitIn}
@@ -17,8 +16,7 @@ use Rattle.life.proofs.Rows.{shorter, cell-is, number-lt}
 use Rattle.board_rows.specs.Rows.{rowCell}
 use Rattle.board_rows.proofs.Writing.{cell-left, cell-right, cell-small, digits-read}
 use Rattle.board_rows.proofs.Theorems.{row-reflects}
-use Rattle.score_table.specs.Rows.{widest, wholeRow, RowsWhole}
-use Rattle.score_table.specs.Inner.{Width}
+use Rattle.score_table.specs.Rows.{wholeRow, RowsWhole}
 use Rattle.score_table.specs.declared.Want.{Want}
 
 module _ (w c : ℕ) where
@@ -94,14 +92,7 @@ rows-whole w c even few = record {
       rw a (whole-cell w c (w - (k + 1)) (omega arith) ∙ rw b at (row-reflects (w / 2) c k (omega arith)) ∙ sym (whole-cell w c k l));
 }
 
--- ---- a width, and the row that a number stands for
-pub width-digits : {w : ℕ} → w ≤ maxWidth → Width false w
-width-digits l = record { narrow = l; even = λ e. absurd (false≢true e) }
-
-pub width-le : (halves : Bool) (w : ℕ) → Width halves w → w ≤ widest
-width-le true w W = omega (arith, W .narrow, W .even refl)
-width-le false w W = omega (arith, W .narrow)
-
+-- ---- the row that a number stands for
 pub row-lt : (halves : Bool) (w c : ℕ) → c < 2 ^ cond halves (w / 2) w → cond halves (wholeRow w c) c < 2 ^ w
 row-lt true w c l = whole-lt w c
 row-lt false w c l = l

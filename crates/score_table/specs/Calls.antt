@@ -3,24 +3,19 @@
 -- Assumes nothing.
 use mathlib.Core.Bool.{Bool, true, false, cond, _&&_}
 use mathlib.Core.List.{List}
-use Prim.Native.Nat.{ℕ, suc, _+_, _-_, _*_, _%_, _^_}
+use Prim.Native.Nat.{ℕ, suc, _+_, _-_, _*_, _^_}
 use lib.Dec.{eqb, leb, ltb}
 use lib.ListN.{length}
-use Rattle.board.specs.Boards.{maxWidth, maxHeight}
+use Rattle.board.specs.Boards.{maxHeight, widthFits}
 use Rattle.elimination.specs.Candidates.{Choice, nothing, chosen}
 use Rattle.elimination.specs.Kind.{choose}
 use Rattle.elimination.specs.Table.{reads, fillEntries}
-use Rattle.score_table.specs.Rows.{rowWorth, rowGain, widest, digitsOf, rowFor}
+use Rattle.score_table.specs.Rows.{rowWorth, rowGain, digitsOf, rowFor}
 use Rattle.score_table.specs.ScoreTable.{absent, kindFor}
 use Rattle.score_table.specs.declared.Want.{Want}
 use Rattle.score_table.specs.declared.Picked.{Picked}
 
--- a width is at most 10; where rows are held as their left halves it is even and at most 20
-abbrev pub widthFits : Bool → ℕ → Bool
-widthFits true w = eqb (w % 2) 0 && leb w widest
-widthFits false w = leb w maxWidth
-
--- the givens are those of a grid of such a width, and of at most 60 rows
+-- the givens are those of a grid of a width that fits how rows are held, and of at most 60 rows
 unfoldable pub gridFits : Bool → ℕ → ℕ → List ℕ → Bool
 gridFits halves w h givens = widthFits halves w && leb h maxHeight && eqb (length givens) (w * h)
 

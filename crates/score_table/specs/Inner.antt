@@ -1,12 +1,12 @@
 -- What the inner functions are lent and answer, in the terms of the score table.
 -- Assumes nothing.
 use mathlib.Core.Path.{_≡_}
-use mathlib.Core.Bool.{Bool, true, cond}
+use mathlib.Core.Bool.{Bool}
 use mathlib.Core.List.{List}
 use Prim.Native.Nat.{ℕ, _+_, _*_, _-_, _/_, _%_, _^_, _≤_, _<_}
 use lib.Dec.{eqb}
 use lib.ListN.{length, getD}
-use Rattle.board.specs.Boards.{maxWidth, maxHeight}
+use Rattle.board.specs.Boards.{maxHeight, Width}
 use Rattle.elimination.specs.Candidates.{Choice, nothing, chosen, Comparison}
 use Rattle.elimination.specs.Kind.{Kind, entry}
 use Rattle.elimination.specs.Sums.{sumWorse, sumKind}
@@ -58,11 +58,6 @@ pub record Found (want : Want) (w : ℕ) (r : Best) (wanted : Choice ℕ) : Type
 -- the entries of a layer, by the binary digits of a row's number
 abbrev pub layerSize : ℕ → ℕ
 layerSize bits = 4 ^ bits
-
--- a row's number has at most 10 binary digits; one that is a left half stands for two cells with each
-pub record Width (halves : Bool) (w : ℕ) : Type 0 where
-  pub narrow : cond halves (w / 2) w ≤ maxWidth
-  pub even : halves ≡ true → w % 2 ≡ 0
 
 -- a grid's givens, lent
 pub record Memory (halves : Bool) (w h : ℕ) (givens : List ℕ) : Type 0 where

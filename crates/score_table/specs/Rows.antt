@@ -4,10 +4,10 @@
 use mathlib.Core.Path.{_≡_}
 use mathlib.Core.Bool.{Bool, true, cond}
 use mathlib.Core.List.{List}
-use Prim.Native.Nat.{ℕ, _+_, _*_, _-_, _/_, _%_, _^_, _<_}
+use Prim.Native.Nat.{ℕ, _+_, _-_, _/_, _%_, _^_, _<_}
 use lib.Dec.{eqb}
 use lib.ListN.{getD}
-use Rattle.board.specs.Boards.{maxWidth}
+use Rattle.board.specs.Boards.{rowDigits}
 use Rattle.board.specs.Lists.{listed}
 use Rattle.board.specs.Search.{allBelow}
 use Rattle.board.specs.Sums.{total}
@@ -36,17 +36,13 @@ unfoldable pub rowGain : ℕ → List ℕ → ℕ → ℕ → ℕ
 rowGain w givens at row = cond (rowKept w givens at row) (1 + rowWorth w givens at row) 0
 
 -- ---- rows that are held as their left halves
--- the most columns of such a row
-abbrev pub widest : ℕ
-widest = 2 * maxWidth
-
 -- the number of the row of w cells whose left half is c: the number that the cells which c stands for read as
 unfoldable pub wholeRow : ℕ → ℕ → ℕ
 wholeRow w c = rowNumber (listed (rowCell (w / 2) c) w) 0 w
 
 -- the binary digits of a row's number
 abbrev pub digitsOf : Want → ℕ → ℕ
-digitsOf want w = cond (want .halves) (w / 2) w
+digitsOf want w = rowDigits (want .halves) w
 
 -- the row that a number stands for
 abbrev pub rowFor : Want → ℕ → ℕ → ℕ

@@ -3,7 +3,7 @@
 -- the entries and which of them a unit writes. `next` is the next-state table of the 512 patterns.
 -- Assumes nothing.
 use mathlib.Core.Path.{_≡_}
-use mathlib.Core.Bool.{Bool, false, _&&_}
+use mathlib.Core.Bool.{Bool, false, cond, _&&_}
 use mathlib.Core.List.{List}
 use Prim.Native.Nat.{ℕ, suc, _+_, _*_, _-_, _/_, _%_, _^_, _<_}
 use lib.ListN.{getD}
@@ -20,10 +20,10 @@ use Rattle.score_table.specs.declared.Want.{Want}
 abbrev pub absent : ℕ
 absent = 65535
 
--- what is wanted of a grid: the greatest number of free live cells, among equals the smallest row; a number read above 600 counts as none, and a
--- row's cells are its number's digits
-abbrev pub mostLive : Want
-mostLive = record { least = false; «greater_first» = false; limit = 600; halves = false }
+-- what is wanted of a grid: the greatest number of free live cells, among equals the smallest row; a number read above 600 counts as none, and above 1,200
+-- where rows are held as their left halves
+abbrev pub mostLive : Bool → Want
+mostLive halves = record { least = false; «greater_first» = false; limit = cond halves 1200 600; halves = halves }
 
 -- What is asked: the sum of free live cells that is wanted. Row c may stand below a over b where the three agree and c keeps the givens of its
 -- row, which start at `givensAt k` with k rows after it; the board may end below a over b where (a, b, 0) and (b, 0, 0) agree. `agreed` is whether
@@ -44,9 +44,9 @@ rules want agreed w givensAt givens = record {
 abbrev pub kindFor : Want → (ℕ → ℕ) → ℕ → ℕ → List ℕ → Kind ℕ
 kindFor want next w h givens = sumKind (rules want (agree next w) w (λ k. (h - suc k) * w) givens)
 
--- the grid's
-abbrev pub kindOf : (ℕ → ℕ) → ℕ → ℕ → List ℕ → Kind ℕ
-kindOf next w h givens = kindFor mostLive next w h givens
+-- by how rows are held
+abbrev pub kindOf : Bool → (ℕ → ℕ) → ℕ → ℕ → List ℕ → Kind ℕ
+kindOf halves next w h givens = kindFor (mostLive halves) next w h givens
 
 -- ---- where entries lie
 -- the place of entry (i, a, b), counted from 0
@@ -54,8 +54,8 @@ unfoldable pub entryPlace : ℕ → ℕ → ℕ → ℕ → ℕ
 entryPlace w i a b = (i - 1) * 4 ^ w + a * 2 ^ w + b
 
 -- its place in a table of two layers: in the half numbered i modulo 2
-unfoldable pub halfPlace : ℕ → ℕ → ℕ → ℕ → ℕ
-halfPlace w i a b = i % 2 * 4 ^ w + a * 2 ^ w + b
+unfoldable pub twoLayerPlace : ℕ → ℕ → ℕ → ℕ → ℕ
+twoLayerPlace w i a b = i % 2 * 4 ^ w + a * 2 ^ w + b
 
 -- the numbers that a table holds from a place on
 abbrev pub readsFrom : List ℕ → ℕ → ℕ → ℕ
@@ -65,7 +65,8 @@ readsFrom table first c = getD table (first + c) 0
 abbrev pub readsOf : ℕ → List ℕ → ℕ → ℕ → ℕ → ℕ
 readsOf w table i b c = getD table (entryPlace w i b c) 0
 
--- of an ordinary job unit u of filling writes entry (h - rowsAfter, rowA, rowB): layer h first, then upward; in a layer a rises, then b
+-- where the whole table is filled, unit u of filling writes entry (h - rowsAfter, rowA, rowB), w being the digits of a row's number: layer h first,
+-- then upward; in a layer a rises, then b
 abbrev pub rowsAfter : ℕ → ℕ → ℕ
 rowsAfter w u = u / 4 ^ w
 
@@ -92,5 +93,5 @@ abbrev pub PlacesRight : Type 0
 PlacesRight = (w h u : ℕ) → InPlace (entryPlace w) w h (plan h (2 ^ w * 2 ^ w) u)
 
 -- THE HALVES: so is every task of the plan over two layers, where Req 05 has it
-abbrev pub HalvesRight : Type 0
-HalvesRight = (w h u : ℕ) → u < Two.startOf h (2 ^ w * 2 ^ w) h → InPlace (halfPlace w) w h (Two.plan h (2 ^ w * 2 ^ w) u)
+abbrev pub TwoLayersRight : Type 0
+TwoLayersRight = (w h u : ℕ) → u < Two.startOf h (2 ^ w * 2 ^ w) h → InPlace (twoLayerPlace w) w h (Two.plan h (2 ^ w * 2 ^ w) u)

@@ -2,7 +2,7 @@
 use crate::Want;
 use crate::rows;
 ghost use mathlib.Core.Path.{_≡_};
-ghost use Rattle.board.specs.Boards.{maxWidth};
+ghost use Rattle.board.specs.Boards.{maxWidth, maxMirrorWidth, Width};
 ghost use mathlib.Core.Option.{some};
 ghost use Prim.Native.Nat.{_+_, _<_, _≤_, _^_};
 ghost use lib.ListN.{length};
@@ -11,8 +11,8 @@ ghost use Rattle.elimination.specs.Candidates as Candidates;
 ghost use Rattle.elimination.specs.Kind.{choose};
 ghost use Rattle.elimination.specs.Sums.{sumWorse};
 ghost use Rattle.score_table.specs.ScoreTable.{readsFrom};
-ghost use Rattle.score_table.specs.Rows.{widest, digitsOf};
-ghost use Rattle.score_table.specs.Inner.{skipTo, choiceOf, compared, kindBy, Found, Width};
+ghost use Rattle.score_table.specs.Rows.{digitsOf};
+ghost use Rattle.score_table.specs.Inner.{skipTo, choiceOf, compared, kindBy, Found};
 
 pub enum Best {
     Nothing,
@@ -22,7 +22,7 @@ pub enum Best {
 
 // The next number of so many binary digits that differs from x in columns 1 to j + 1: every row before it has the cells of x there.
 fn next_row(bits: usize, x: usize, j: usize) -> usize
-    requires { ⌜ (bits ≤ maxWidth) × (x < 2 ^ bits) × (j ≤ widest + 1) ⌝ }
+    requires { ⌜ (bits ≤ maxWidth) × (x < 2 ^ bits) × (j ≤ maxMirrorWidth + 1) ⌝ }
     ensures { λ r. ⌜ (r ≡ skipTo bits x j) × (x < r) × (r ≤ 2 ^ bits) ⌝ }
 {
     let s = if j + 1 < bits { bits - (j + 1) } else { 0 };
@@ -74,7 +74,7 @@ pub fn best_row(
     requires { ⌜ Width (want .halves) w × (a < 2 ^ digitsOf want w) × (b < 2 ^ digitsOf want w) × (t < 2 ^ w) × (at + w ≤ length (now givens)) × (first + 2 ^ digitsOf want w ≤ length (now table)) ⌝ }
     ensures { λ r. ⌜ Found want w r (choose (kindBy want (entryOf (now (next .entry))) w t (now (givens .entry)) at) 0 a b (readsFrom (now (table .entry)) first)) ⌝ }
 {
-    let bits = rows::digits_of(want, w);
+    let bits = board::row_digits(want.halves, w);
     let n = rows::row_codes(bits);
     let columns = rows::columns(w, rows::row_for(want, w, a), rows::row_for(want, w, b), t);
     let mut c = 0;

@@ -37,7 +37,7 @@ fn entry_at(
     requires { ⌜ EntriesRead want w h k source j 1 (now givens) (now table) × (want .limit + w < absent) ⌝ }
     ensures { λ r. ⌜ r ≡ entryOver want (entryOf (now (next .entry))) w h k source j (now (givens .entry)) (now (table .entry)) ⌝ }
 {
-    let n = rows::row_codes(rows::digits_of(want, w));
+    let n = rows::row_codes(board::row_digits(want.halves, w));
     let a = j / n;
     let b = j % n;
     let t = rows::row_for(want, w, b);

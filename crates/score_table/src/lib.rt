@@ -10,7 +10,7 @@ ghost use Rattle.board.specs.Boards.{maxWidth};
 ghost use Prim.Native.Nat.{_≤_};
 ghost use Rattle.rule.specs.Rule.{entryOf};
 ghost use Rattle.score_table.specs.ScoreTable.{mostLive};
-ghost use Rattle.score_table.specs.Calls.{widthFits, gridFits, callFits, layerFits, fillFits, fillWrites, gainOf, rowPicked, pickedOf};
+ghost use Rattle.score_table.specs.Calls.{gridFits, callFits, layerFits, fillFits, fillWrites, gainOf, rowPicked, pickedOf};
 
 // The number that stands for none.
 pub const NONE: u16 = 65535;
@@ -33,15 +33,16 @@ pub enum Picked {
     Row { row: usize, worth: usize },
 }
 
-// What is wanted of a grid: the most free live cells, 600 at most; among equals the smallest row.
-pub fn most_live() -> Want
-    ensures { λ r. ⌜ r ≡ mostLive ⌝ }
+// What is wanted of a grid: the most free live cells, 600 at most, or 1,200 where rows are held as their left halves; among equals the smallest row.
+pub fn most_live(halves: bool) -> Want
+    ensures { λ r. ⌜ r ≡ mostLive halves ⌝ }
 {
+    let limit = if halves { 1200 } else { 600 };
     Want {
         least: false,
         greater_first: false,
-        limit: 600,
-        halves: false,
+        limit,
+        halves,
     }
 }
 
@@ -103,7 +104,7 @@ pub fn choose_row(
     if h <= r {
         return Picked::Nothing;
     }
-    let bits = rows::digits_of(want, w);
+    let bits = board::row_digits(want.halves, w);
     if !layer_fits(bits, table.len(), source) {
         return Picked::Nothing;
     }
@@ -144,24 +145,11 @@ pub fn row_gain(w: usize, h: usize, r: usize, row: usize, givens: &[u8]) -> usiz
     rows::row_worth(w, givens, at, row) + 1
 }
 
-// Whether a width is at most 10; where rows are held as their left halves, whether it is even and at most 20.
-fn width_fits(halves: bool, w: usize) -> bool
-    ensures { λ r. ⌜ r ≡ widthFits halves w ⌝ }
-{
-    if !halves {
-        return w <= board::MAX_WIDTH;
-    }
-    if w % 2 != 0 {
-        return false;
-    }
-    w <= rows::WIDEST
-}
-
-// Whether the givens are those of a grid of such a width, and of at most 60 rows.
+// Whether the givens are those of a grid of a width that fits how rows are held, and of at most 60 rows.
 fn grid_fits(halves: bool, w: usize, h: usize, givens: &[u8]) -> bool
     ensures { λ r. ⌜ r ≡ gridFits halves w h (now (givens .entry)) ⌝ }
 {
-    if !width_fits(halves, w) {
+    if !board::width_fits(halves, w) {
         return false;
     }
     if board::MAX_HEIGHT < h {
@@ -213,7 +201,7 @@ pub fn fill_fits(
     if h <= after {
         return false;
     }
-    let bits = rows::digits_of(want, w);
+    let bits = board::row_digits(want.halves, w);
     let q = filling::layer_size(bits);
     if q < count {
         return false;

@@ -1,26 +1,16 @@
 // Rows as numbers: a row's cells are its binary digits, the leftmost most significant; or the number is its left half, and its reflection follows.
 use crate::Want;
 ghost use mathlib.Core.Path.{_≡_};
-ghost use Rattle.board.specs.Boards.{maxWidth};
+ghost use Rattle.board.specs.Boards.{maxWidth, maxMirrorWidth, Width};
 ghost use Prim.Native.Nat.{_+_, _<_, _≤_, _^_, _/_, _%_};
 ghost use lib.ListN.{length};
 ghost use Rattle.rule.specs.Rule.{entryOf};
 ghost use Rattle.life.specs.Rows.{window, stepsTo};
-ghost use Rattle.score_table.specs.Inner.{columnOf, Columns, passes, Width};
-ghost use Rattle.score_table.specs.Rows.{markKept, rowKept, cellWorth, rowWorth, widest, digitsOf, wholeRow, rowFor};
-
-// The most columns of a row that is held as its left half.
-pub const WIDEST: usize = 2 * board::MAX_WIDTH;
+ghost use Rattle.score_table.specs.Inner.{columnOf, Columns, passes};
+ghost use Rattle.score_table.specs.Rows.{markKept, rowKept, cellWorth, rowWorth, digitsOf, wholeRow, rowFor};
 
 // Columns 0 to w + 1 of the widest row.
-const COLUMNS: usize = WIDEST + 2;
-
-// The binary digits of a row's number.
-pub fn digits_of(want: Want, w: usize) -> usize
-    ensures { λ r. ⌜ r ≡ digitsOf want w ⌝ }
-{
-    if want.halves { w / 2 } else { w }
-}
+const COLUMNS: usize = board::MAX_MIRROR_WIDTH + 2;
 
 // How many numbers of so many binary digits there are.
 pub fn row_codes(bits: usize) -> usize
@@ -32,7 +22,7 @@ pub fn row_codes(bits: usize) -> usize
 
 // The row of w cells whose left half is c: the half, and then its digits from the right.
 fn whole_row(w: usize, c: usize) -> usize
-    requires { ⌜ (w ≤ widest) × (w % 2 ≡ 0) × (c < 2 ^ (w / 2)) ⌝ }
+    requires { ⌜ (w ≤ maxMirrorWidth) × (w % 2 ≡ 0) × (c < 2 ^ (w / 2)) ⌝ }
     ensures { λ r. ⌜ r ≡ wholeRow w c ⌝ }
 {
     let n = w / 2;
@@ -53,7 +43,7 @@ pub fn row_for(want: Want, w: usize, c: usize) -> usize
 
 // The cells in columns j - 1, j and j + 1 of a row, as three digits.
 fn window_at(w: usize, row: usize, j: usize) -> usize
-    requires { ⌜ (w ≤ widest) × (row < 2 ^ w) × (j ≤ w + 1) ⌝ }
+    requires { ⌜ (w ≤ maxMirrorWidth) × (row < 2 ^ w) × (j ≤ w + 1) ⌝ }
     ensures { λ x. ⌜ (x ≡ window w row j) × (x < 8) ⌝ }
 {
     (4 * row >> (w + 1 - j)) % 8
@@ -61,7 +51,7 @@ fn window_at(w: usize, row: usize, j: usize) -> usize
 
 // Column j of a over b, which has to become t: the digits that a and b give to its pattern, and before the nine the cell of t.
 fn column(w: usize, a: usize, b: usize, t: usize, j: usize) -> usize
-    requires { ⌜ (w ≤ widest) × (a < 2 ^ w) × (b < 2 ^ w) × (t < 2 ^ w) × (j ≤ w + 1) ⌝ }
+    requires { ⌜ (w ≤ maxMirrorWidth) × (a < 2 ^ w) × (b < 2 ^ w) × (t < 2 ^ w) × (j ≤ w + 1) ⌝ }
     ensures { λ r. ⌜ (r ≡ columnOf w a b t j) × (r < 1024) ⌝ }
 {
     512 * (window_at(w, t, j) / 2 % 2) + 64 * window_at(w, a, j) + 8 * window_at(w, b, j)
@@ -69,7 +59,7 @@ fn column(w: usize, a: usize, b: usize, t: usize, j: usize) -> usize
 
 // Columns 0 to w + 1: what the test of a column asks of a, b and t, once for all rows below them.
 pub fn columns(w: usize, a: usize, b: usize, t: usize) -> [usize; COLUMNS]
-    requires { ⌜ (w ≤ widest) × (a < 2 ^ w) × (b < 2 ^ w) × (t < 2 ^ w) ⌝ }
+    requires { ⌜ (w ≤ maxMirrorWidth) × (a < 2 ^ w) × (b < 2 ^ w) × (t < 2 ^ w) ⌝ }
     ensures { λ r. ⌜ Columns w a b t r ⌝ }
 {
     let mut r = [0; COLUMNS];
@@ -81,7 +71,7 @@ pub fn columns(w: usize, a: usize, b: usize, t: usize) -> [usize; COLUMNS]
 
 // Whether with c below it the cell of b becomes that of t, by the column of both.
 pub fn passes(next: &[u8; 512], w: usize, column: usize, c: usize, j: usize) -> bool
-    requires { ⌜ (w ≤ widest) × (column < 1024) × (c < 2 ^ w) × (j ≤ w + 1) ⌝ }
+    requires { ⌜ (w ≤ maxMirrorWidth) × (column < 1024) × (c < 2 ^ w) × (j ≤ w + 1) ⌝ }
     ensures { λ r. ⌜ r ≡ passes (entryOf (now (next .entry))) w column c j ⌝ }
 {
     let p = column + window_at(w, c, j);
@@ -90,7 +80,7 @@ pub fn passes(next: &[u8; 512], w: usize, column: usize, c: usize, j: usize) -> 
 
 // Whether rows a, b, c step to row t in the middle, and the ring beside it stays dead; with t = b, whether they agree.
 pub fn steps_to(next: &[u8; 512], w: usize, a: usize, b: usize, c: usize, t: usize) -> bool
-    requires { ⌜ (w ≤ widest) × (a < 2 ^ w) × (b < 2 ^ w) × (c < 2 ^ w) × (t < 2 ^ w) ⌝ }
+    requires { ⌜ (w ≤ maxMirrorWidth) × (a < 2 ^ w) × (b < 2 ^ w) × (c < 2 ^ w) × (t < 2 ^ w) ⌝ }
     ensures { λ r. ⌜ r ≡ stepsTo (entryOf (now (next .entry))) w a b c t ⌝ }
 {
     let mut j = 0;
@@ -116,7 +106,7 @@ fn mark_kept(mark: u8, cell: usize) -> bool
 
 // Whether a row keeps the givens that start at a place of the grid.
 pub fn row_kept(w: usize, givens: &[u8], at: usize, row: usize) -> bool
-    requires { ⌜ (w ≤ widest) × (at + w ≤ length (now givens)) ⌝ }
+    requires { ⌜ (w ≤ maxMirrorWidth) × (at + w ≤ length (now givens)) ⌝ }
     ensures { λ r. ⌜ r ≡ rowKept w (now (givens .entry)) at row ⌝ }
 {
     for k in 0..w {
@@ -140,7 +130,7 @@ fn cell_worth(mark: u8, cell: usize) -> usize
 
 // The worth of a row: its live cells that are free, by the givens that start at a place of the grid.
 pub fn row_worth(w: usize, givens: &[u8], at: usize, row: usize) -> usize
-    requires { ⌜ (w ≤ widest) × (at + w ≤ length (now givens)) ⌝ }
+    requires { ⌜ (w ≤ maxMirrorWidth) × (at + w ≤ length (now givens)) ⌝ }
     ensures { λ r. ⌜ (r ≡ rowWorth w (now (givens .entry)) at row) × (r ≤ w) ⌝ }
 {
     let mut n = 0;

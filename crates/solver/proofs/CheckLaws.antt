@@ -11,7 +11,7 @@ use Rattle.board.specs.Answers.{Answer, gives, refuses, _then_, Checked}
 use Rattle.board.specs.Checks.{lengthCheck, tableSize, tableCheck}
 use Rattle.board.proofs.Answers.{then-gives, unless-gives, checked-then, checked-unless}
 use Rattle.edges.proofs.Theorems.{edge-checked}
-use Rattle.job.specs.Jobs.{layersOf, pauseRule, readCheck}
+use Rattle.job.specs.Jobs.{kindDigits, layersOf, pauseRule, readCheck}
 use Rattle.job.proofs.ReadChecks.{read-marks, read-checked}
 use Rattle.service.specs.Service.{workCheck}
 use Rattle.service.specs.Laws.{ChecksSound}
@@ -28,41 +28,41 @@ pause-refused j g t β e = Shared.pause-refused grid j g t β e
 
 module _ (j : Job) (g t β : List ℕ) where
   abbrev entriesCheck : Answer
-  entriesCheck = tableCheck (j .width) (layersOf (j .kind) (j .height)) t
+  entriesCheck = tableCheck (kindDigits (j .kind) (j .width)) (layersOf (j .kind) (j .height)) t
 
   abbrev cellsCheck : Answer
   cellsCheck = lengthCheck 5 (j .width) (j .height) β
 
   -- they answer what those of what is read do, and 5 and 6
-  pub lent-checked : (n : ℕ) → (5 ≡ n → ⊥) → (6 ≡ n → ⊥) → Checked n (readCheck (j .rule) (j .width) (j .height) g) → Checked n (lentCheck j g t β)
+  pub lent-checked : (n : ℕ) → (5 ≡ n → ⊥) → (6 ≡ n → ⊥) → Checked n (readCheck (j .kind) (j .rule) (j .width) (j .height) g) → Checked n (lentCheck j g t β)
   unfolding lentCheck
   lent-checked n p q c =
-      checked-then n (readCheck (j .rule) (j .width) (j .height) g) (cellsCheck then entriesCheck) c
+      checked-then n (readCheck (j .kind) (j .rule) (j .width) (j .height) g) (cellsCheck then entriesCheck) c
       (checked-then n cellsCheck entriesCheck (checked-unless n (eqb (length β) (j .width * j .height)) 5 p)
-      (checked-unless n (leb (tableSize (j .width) (layersOf (j .kind) (j .height))) (length t)) 6 q))
+      (checked-unless n (leb (tableSize (kindDigits (j .kind) (j .width)) (layersOf (j .kind) (j .height))) (length t)) 6 q))
 
   -- what they have shown where they pass
-  pub lent-passed : {values : List ℕ} → lentCheck j g t β ≡ gives values → (length β ≡ j .width * j .height) × (tableSize (j .width) (layersOf (j .kind) (j .height)) ≤ length t)
+  pub lent-passed : {values : List ℕ} → lentCheck j g t β ≡ gives values → (length β ≡ j .width * j .height) × (tableSize (kindDigits (j .kind) (j .width)) (layersOf (j .kind) (j .height)) ≤ length t)
   unfolding lentCheck
   lent-passed e =
-      let b = then-gives (readCheck (j .rule) (j .width) (j .height) g) (cellsCheck then entriesCheck) e in
+      let b = then-gives (readCheck (j .kind) (j .rule) (j .width) (j .height) g) (cellsCheck then entriesCheck) e in
       let c = then-gives cellsCheck entriesCheck (b .1) in (
         eqb-true (length β) (j .width * j .height) (unless-gives (eqb (length β) (j .width * j .height)) 5 (c .0 .1)),
-        leb-true (tableSize (j .width) (layersOf (j .kind) (j .height))) (length t) (unless-gives (leb (tableSize (j .width) (layersOf (j .kind) (j .height))) (length t)) 6 (c .1)),
+        leb-true (tableSize (kindDigits (j .kind) (j .width)) (layersOf (j .kind) (j .height))) (length t) (unless-gives (leb (tableSize (kindDigits (j .kind) (j .width)) (layersOf (j .kind) (j .height))) (length t)) 6 (c .1)),
       )
 
   pub lent-of : {values : List ℕ} → workCheck grid j g t β ≡ gives values → Lent j g t β
   unfolding lentCheck
   lent-of e =
       let p = work-passed grid j g t β e in
-      let b = then-gives (readCheck (j .rule) (j .width) (j .height) g) (cellsCheck then entriesCheck) (p .1) in
+      let b = then-gives (readCheck (j .kind) (j .rule) (j .width) (j .height) g) (cellsCheck then entriesCheck) (p .1) in
       let c = lent-passed (p .1) in
-      record { taken = p .0; marks = read-marks (j .rule) (j .width) (j .height) g (b .0 .1) .long; cells = c .0; entries = c .1 }
+      record { taken = p .0; marks = read-marks (j .kind) (j .rule) (j .width) (j .height) g (b .0 .1) .long; cells = c .0; entries = c .1 }
 
 pub checks-sound : ChecksSound grid
 checks-sound j g t β =
     lent-checked j g t β 9 (λ e. omega arith) (λ e. omega arith)
-    (read-checked (j .rule) (j .width) (j .height) g 9 (λ e. omega arith) (λ e. omega arith) (edge-checked 9 (j .rule) (j .width) (j .height) g (λ e. omega arith)))
+    (read-checked (j .kind) (j .rule) (j .width) (j .height) g 9 (λ e. omega arith) (λ e. omega arith) (λ e. omega arith) (edge-checked 9 (j .rule) (j .width) (j .height) g (λ e. omega arith)))
 
 pub work-checked : (j : Job) (g t β : List ℕ) → Checked 9 (workCheck grid j g t β)
 work-checked j g t β = Shared.work-checked grid j g t β 9 (λ e. omega arith) (checks-sound j g t β)

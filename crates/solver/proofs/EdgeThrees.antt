@@ -21,7 +21,7 @@ use Rattle.edges.proofs.Edges.{GivenLive, place-inside, EdgeThree, along-row, a
 use Rattle.edges.proofs.Theorems.{edge-checks-right}
 use Rattle.life.specs.Plane.{Plane, onPlane, neighbours, Still}
 use Rattle.life.proofs.OnPlane.{Off, before, nought, past, off-row, off-column}
-use Rattle.job.specs.Jobs.{readCheck, openRule}
+use Rattle.job.specs.Jobs.{halvesOf, readCheck, openRule}
 use Rattle.job.specs.declared.Kind.{Kind}
 use Rattle.job.specs.declared.Job.{Job}
 use Rattle.service.specs.Service.{workCheck, workOf}
@@ -102,26 +102,26 @@ board-passes-edges {rule} {w} {h} {g} {b} S = go (bornOn3 rule) refl
     go false e = edge-checks-right rule w h g .other e
 
 -- ---- the theorem
-module _ {rule : Rule} {w h : ℕ} {g b : List ℕ} (S : Solution rule w h g b) where
-  read-without : Checked 14 (readCheck rule w h g)
-  read-without = read-checked rule w h g 14 (λ e. omega arith) (λ e. omega arith) (rw (board-passes-edges S) refl)
+module _ (kind : Kind) {rule : Rule} {w h : ℕ} {g b : List ℕ} (S : Solution rule w h g b) where
+  read-without : Checked 14 (readCheck kind rule w h g)
+  read-without = read-checked kind rule w h g 14 (λ e. omega arith) (λ e. omega arith) (λ e. omega arith) (rw (board-passes-edges S) refl)
 
-  not-opened : (kind : Kind) {values : List ℕ} → openRule kind rule w h g ≡ refuses 14 values → ⊥
+  not-opened : {values : List ℕ} → openRule kind rule w h g ≡ refuses 14 values → ⊥
   unfolding openRule
-  not-opened kind e =
-      let p = past-check 14 (gridCheck rule w h) (grid-checked rule 14 w h (λ e. omega arith) (λ e. omega arith) (λ e. omega arith)) e in
-      refuses-none (sym (past-check 14 (readCheck rule w h g) read-without p))
+  not-opened e =
+      let p = past-check 14 (gridCheck (halvesOf kind) rule w h) (grid-checked rule (halvesOf kind) 14 w h (λ e. omega arith) (λ e. omega arith) (λ e. omega arith)) e in
+      refuses-none (sym (past-check 14 (readCheck kind rule w h g) read-without p))
 
 not-worked : (j : Job) (g t β : List ℕ) (n : ℕ) {b : List ℕ} → Solution (j .rule) (j .width) (j .height) g b → {values : List ℕ}
     → workOf grid j g t β n .answer ≡ refuses 14 values → ⊥
 not-worked j g t β n S e =
     checked-not 14 (workCheck grid j g t β)
-    (work-checked grid j g t β 14 (λ e. omega arith) (lent-checked j g t β 14 (λ e. omega arith) (λ e. omega arith) (read-without S)))
+    (work-checked grid j g t β 14 (λ e. omega arith) (lent-checked j g t β 14 (λ e. omega arith) (λ e. omega arith) (read-without (j .kind) S)))
     (work-refused grid j g t β n (λ q. omega arith) e)
 
 pub edge-three-has-no-board : EdgeThreeHasNoBoard
 edge-three-has-no-board = record {
   passes = λ rule w h g b S. board-passes-edges S;
-  opening = λ kind rule w h g values e b S. not-opened S kind e;
+  opening = λ kind rule w h g values e b S. not-opened kind S e;
   working = λ j g t β n values e b S. not-worked j g t β n S e;
 }

@@ -1,19 +1,21 @@
--- The kind of job that row elimination is put to is lawful, and its endings are the still boards that keep the givens.
+-- The kind of job that row elimination is put to is lawful, and its endings are the still boards that keep the givens, of a mirror job the mirror boards
+-- among them.
 -- Assumes nothing.
 use mathlib.Core.Path.{_≡_, refl, sym, subst}
-use mathlib.Core.Bool.{Bool, true, _&&_}
+use mathlib.Core.Bool.{Bool, true, false, _&&_}
 use mathlib.Core.List.{List}
 use mathlib.Core.Logic.{⊎-elim}
-use Prim.Native.Nat.{ℕ, zero, suc, _+_, _*_, _-_, _<_}
+use Prim.Native.Nat.{ℕ, zero, suc, _+_, _*_, _-_, _≤_, _<_}
 use native.Mathlib.Nat.{eq-or-lt-of-le, mul-le-mul-right}
 use native.Mathlib.Numerals.{add-one, add-two}
 use native.Mathlib.Omega.{arith}
 use borrow.Author.Tests.{eq-eqb, ne-eqb, eqb-true}
 use lib.Dec.{lit<}
 use lib.ListN.{getD}
-use Rattle.board.specs.Boards.{Sized, Bytes, Board}
+use Rattle.board.specs.Boards.{SizedBy, Bytes}
 use Rattle.board.proofs.Search.{all-of, all-at}
 use Rattle.board.proofs.Tests.{and-left, and-right, and-true}
+use Rattle.board.proofs.Widths.{width-le}
 use Rattle.elimination.specs.Kind.{Kind}
 use Rattle.elimination.specs.Endings.{Ending, Laws, total}
 use Rattle.elimination.specs.Boards.{previousRow}
@@ -25,21 +27,31 @@ use Rattle.life.specs.Rows.{rowOf, digitIn, stepsTo, agree, RowsStepTo}
 use Rattle.life.proofs.OnPlane.{place-within}
 use Rattle.life.proofs.Rows.{agree-steps, steps-agree}
 use Rattle.life.proofs.Theorems.{rows-life}
-use Rattle.solver.specs.Grid.{KeepsGivens, Solution, score}
-use Rattle.score_table.specs.Rows.{markKept, rowKept}
-use Rattle.score_table.specs.ScoreTable.{mostLive, rules, kindOf}
+use Rattle.solver.specs.Grid.{KeepsGivens, Solution, SolutionBy, BoardBy, heldRow, score}
+use Rattle.score_table.specs.Rows.{markKept, rowKept, rowFor}
+use Rattle.score_table.specs.ScoreTable.{absent, mostLive, rules, kindOf}
 use Rattle.solver.specs.Theorems.{allRows}
 use Rattle.score_table.proofs.Marks.{MarkIs, isDead, isLive, isFree, mark-is, row-worth-le}
-use Rattle.solver.proofs.RowLaws.{row-none, row-past, row-lt, row-digit, Place, place, score-more, score-none}
+use Rattle.solver.proofs.RowLaws.{row-none, row-past, row-digit, Place, place, score-more, score-none}
+use Rattle.solver.proofs.HeldRows.{held-none, held-lt, row-held, previous-held, solution-plain, solution-of}
 
 -- the kind of job
-abbrev pub kind : Rule → ℕ → ℕ → List ℕ → Kind ℕ
-kind rule w h g = kindOf (nextUnder rule) w h g
+abbrev pub kind : Bool → Rule → ℕ → ℕ → List ℕ → Kind ℕ
+kind halves rule w h g = kindOf halves (nextUnder rule) w h g
 
-pub kind-laws : (rule : Rule) (w h : ℕ) (g : List ℕ) → Sized w h → Laws (kind rule w h g) h
-kind-laws rule w h g z =
-    sums-lawful (rules mostLive (agree (nextUnder rule) w) w (λ k. (h - suc k) * w) g) h w
-    (record { each = λ k c l. row-worth-le w g ((h - suc k) * w) c; within = omega (arith, mul-le-mul-right w (z .low), z .narrow); absent-above = lit< tt })
+-- all cells of a grid are within the limit, and the limit is below the number for none
+within : (halves : Bool) {w h : ℕ} → SizedBy halves w h → h * w ≤ mostLive halves .limit
+within true {w} z = omega (arith, mul-le-mul-right w (z .low), width-le true w (z .width))
+within false {w} z = omega (arith, mul-le-mul-right w (z .low), z .width .narrow)
+
+absent-above : (halves : Bool) → mostLive halves .limit < absent
+absent-above true = lit< tt
+absent-above false = lit< tt
+
+pub kind-laws : (halves : Bool) (rule : Rule) (w h : ℕ) (g : List ℕ) → SizedBy halves w h → Laws (kind halves rule w h g) h
+kind-laws halves rule w h g z =
+    sums-lawful (rules (mostLive halves) (agree (nextUnder rule) w) w (λ k. (h - suc k) * w) g) h w
+    (record { each = λ k c l. row-worth-le w g ((h - suc k) * w) (rowFor (mostLive halves) w c); within = within halves z; absent-above = absent-above halves })
 
 -- ---- a mark that is kept, by the two states that a given cell may have
 mark-of : (mark cell : ℕ) → (mark ≡ 1 → cell ≡ 0) → (mark ≡ 2 → cell ≡ 1) → markKept mark cell ≡ true
@@ -136,37 +148,41 @@ module _ {w h : ℕ} {board : List ℕ} (b : Bytes 1 w h board) (g : List ℕ) w
 rows-over : {h r : ℕ} → r < h → h - suc (h - suc r) ≡ r
 rows-over l = omega arith
 
-module _ {rule : Rule} (allowed : Allowed rule) {w h : ℕ} {board : List ℕ} (B : Board w h board) (g : List ℕ) where
+module _ (halves : Bool) {rule : Rule} (allowed : Allowed rule) {w h : ℕ} {board : List ℕ} (B : BoardBy halves w h board) (g : List ℕ) where
   abbrev agreed : ℕ → Bool
   agreed r = agree (nextUnder rule) w (previousRow (rowOf w h board) r) (rowOf w h board r) (rowOf w h board (suc r))
 
   abbrev keeps : ℕ → Bool
   keeps r = rowKept w g (r * w) (rowOf w h board (suc r))
 
-  pub solution-ends : Solution rule w h g board → Ending (kind rule w h g) h 0 0 (allRows w h board)
+  pub solution-ends : SolutionBy halves rule w h g board → Ending (kind halves rule w h g) h 0 0 (allRows halves w h board)
   solution-ends S =
-      let A = in-order (nextUnder rule) w h board board (B .size .some-row) (agree-steps (rows-life rule allowed w h board B .0 (S .still))) in
-      endings-stand (kind rule w h g) h (rowOf w h board) (row-none w h board) .1 (record {
-        below = λ r l. row-lt (B .bytes) (suc r);
-        each = λ r l. rw (rows-over l) (and-true (A .chosen r l) (kept-of (B .bytes) g (S .keeps) r l));
-        final = A .final;
+      let P : Solution rule w h g board = solution-plain halves S in
+      let A = in-order (nextUnder rule) w h board board (B .size .some-row) (agree-steps (rows-life rule allowed w h board (B .bytes) .0 (P .still))) in
+      endings-stand (kind halves rule w h g) h (heldRow halves w h board) (held-none halves w h board) .1 (record {
+        below = λ r l. held-lt halves (B .bytes) r l;
+        each = λ r l.
+            rw (rows-over l, previous-held halves B r (omega arith), row-held halves B r (omega arith), row-held halves B (suc r) l)
+            (and-true (A .chosen r l) (kept-of (B .bytes) g (P .keeps) r l));
+        final = rw (previous-held halves B h (omega arith), row-held halves B h (omega arith)) (A .final);
       })
 
-  pub ends-solution : Ending (kind rule w h g) h 0 0 (allRows w h board) → Solution rule w h g board
+  pub ends-solution : Ending (kind halves rule w h g) h 0 0 (allRows halves w h board) → SolutionBy halves rule w h g board
   ends-solution E =
-      let T = endings-stand (kind rule w h g) h (rowOf w h board) (row-none w h board) .0 E in
-      let m : (r : ℕ) → r < h → agreed r && keeps r ≡ true = λ r l. rw (rows-over l) at (T .each r l) in
-      record {
-        grid = B;
-        still = rows-life rule allowed w h board B .1 (steps-agree (rows-step (nextUnder rule) w h board board (B .size .some-row) (record {
+      let T = endings-stand (kind halves rule w h g) h (heldRow halves w h board) (held-none halves w h board) .0 E in
+      let m : (r : ℕ) → r < h → agreed r && keeps r ≡ true =
+      λ r l. rw (rows-over l, previous-held halves B r (omega arith), row-held halves B r (omega arith), row-held halves B (suc r) l) at (T .each r l) in
+      solution-of halves B (record {
+        bytes = B .bytes;
+        still = rows-life rule allowed w h board (B .bytes) .1 (steps-agree (rows-step (nextUnder rule) w h board board (B .size .some-row) (record {
           chosen = λ r l. and-left (agreed r) (keeps r) (m r l);
-          final = T .final;
+          final = rw (previous-held halves B h (omega arith), row-held halves B h (omega arith)) at (T .final);
         })));
         keeps = keeps-of (B .bytes) g (B .size .some-column) (λ r l. and-right (agreed r) (keeps r) (m r l));
-      }
+      })
 
   -- and its score is what its rows are worth
-  pub total-score : score w h g board ≡ total (kind rule w h g) (allRows w h board)
+  pub total-score : score w h g board ≡ total (kind halves rule w h g) (allRows halves w h board)
   total-score =
-      rows-worth (rules mostLive (agree (nextUnder rule) w) w (λ k. (h - suc k) * w) g) h (rowOf w h board) (λ r. score w r g board)
-      (λ r l. rw (rows-over l) (score-more (B .bytes) g r l)) (score-none w g board)
+      rows-worth (rules (mostLive halves) (agree (nextUnder rule) w) w (λ k. (h - suc k) * w) g) h (heldRow halves w h board) (λ r. score w r g board)
+      (λ r l. rw (rows-over l, row-held halves B (suc r) l) (score-more (B .bytes) g r l)) (score-none w g board)

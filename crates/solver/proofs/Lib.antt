@@ -1,5 +1,6 @@
 -- The laws of this crate that belong to no one function, and its theorems. Each file builds on those above it.
 pub mod RowLaws
+pub mod HeldRows
 pub mod Endings
 pub mod Optimum
 pub mod Theorems

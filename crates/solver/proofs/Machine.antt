@@ -6,10 +6,12 @@ use Prim.Native.Nat.{ℕ, suc, _*_, _-_}
 use native.Mathlib.Omega.{arith}
 use Rattle.elimination.specs.Job as Elimination
 use Rattle.rule.specs.declared.Rule.{Rule}
-use Rattle.job.specs.Jobs.{shapeOf}
+use Rattle.job.specs.Jobs.{halvesOf, shapeOf}
 use Rattle.job.specs.declared.Kind.{Kind}
 use Rattle.job.proofs.Shapes.{shape-lawful}
 use Rattle.job.proofs.Fits.{Frame}
+use Rattle.score_table.specs.Rows.{rowFor}
+use Rattle.score_table.specs.ScoreTable.{mostLive}
 use Rattle.score_table.proofs.Marks.{row-worth-le}
 use Rattle.service.specs.Laws.{Follows}
 use Rattle.service.specs.Units.{unitBy, Numbered}
@@ -19,7 +21,7 @@ use Rattle.solver.specs.Working.{lentCheck}
 use Rattle.solver.specs.Units.{State, setupOf, unitOf, grid}
 use Rattle.solver.specs.Demand.{Of}
 
-module _ (kind : Kind) {rule : Rule} {w h : ℕ} (z : Frame rule w h) (g : List ℕ) where
+module _ (kind : Kind) {rule : Rule} {w h : ℕ} (z : Frame kind rule w h) (g : List ℕ) where
   pub numbered : Numbered (setupOf kind rule w h g) (shapeOf kind w h) (Of kind rule w h)
   numbered = record {
     shaped = shape-lawful w h kind (z .size .some-row);
@@ -27,7 +29,7 @@ module _ (kind : Kind) {rule : Rule} {w h : ℕ} (z : Frame rule w h) (g : List 
     rows = refl;
     codes = refl;
     is = λ j O. rw (O .kept, O .wide, O .tall);
-    earns = λ k c n. omega (arith, row-worth-le w g ((h - suc k) * w) c);
+    earns = λ k c n. omega (arith, row-worth-le w g ((h - suc k) * w) (rowFor (mostLive (halvesOf kind)) w c));
     same = λ j t O a b c d. record { kept = O .kept; ruled = ap₂ (λ (x y : ℕ). record { births = x; survivals = y }) c d ∙ O .ruled; wide = a ∙ O .wide; tall = b ∙ O .tall };
   }
 
@@ -36,7 +38,7 @@ module _ (kind : Kind) {rule : Rule} {w h : ℕ} (z : Frame rule w h) (g : List 
   unit-same s O = rw (O .kept, O .ruled, O .wide, O .tall)
 
 -- ---- and the job follows the machine
-abbrev pub follows : (kind : Kind) {rule : Rule} {w h : ℕ} → Frame rule w h → (g : List ℕ) → Follows grid g (Elimination.machine (setupOf kind rule w h g))
+abbrev pub follows : (kind : Kind) {rule : Rule} {w h : ℕ} → Frame kind rule w h → (g : List ℕ) → Follows grid g (Elimination.machine (setupOf kind rule w h g))
 follows kind {rule} {w} {h} z g =
     Shared.follows (List ℕ) lentCheck unitOf g (setupOf kind rule w h g) (Of kind rule w h)
     (continues (setupOf kind rule w h g) (shapeOf kind w h) (Of kind rule w h) (numbered kind z g)) (unit-same kind z g)

@@ -1,7 +1,7 @@
 -- The board of the rows that row elimination chooses is the optimal board, wherever they are written.
 -- Assumes nothing.
-use mathlib.Core.Path.{_≡_, refl, sym, _∙_, ap₂, subst}
-use mathlib.Core.Bool.{false}
+use mathlib.Core.Path.{_≡_, refl, sym, _∙_, ap, ap₂, subst}
+use mathlib.Core.Bool.{Bool, false}
 use mathlib.Core.List.{List, [], _∷_}
 use mathlib.Core.Logic.{inl, inr, ⊎-elim}
 use Prim.Native.Nat.{ℕ, zero, suc, _+_, _*_, _-_, _^_, _≤_, _<_}
@@ -9,7 +9,7 @@ use native.Mathlib.Nat.{mul-le-mul-right, mul-comm}
 use native.Mathlib.Omega.{arith}
 use borrow.Author.Tests.{ltb-true, ltb-false}
 use lib.ListN.{length, getD, replicate, length-replicate}
-use Rattle.board.specs.Boards.{Bytes, Board}
+use Rattle.board.specs.Boards.{rowDigits, SizedBy}
 use Rattle.elimination.specs.Kind.{Kind}
 use Rattle.elimination.specs.Endings.{Ending, total, BestEnding}
 use Rattle.elimination.specs.Boards.{rowsFrom, Earlier, BoardLaws, BestBoard}
@@ -19,45 +19,45 @@ use Rattle.elimination.proofs.Numbers.{lt-or-ge}
 use Rattle.elimination.proofs.Sums.{equal-tied}
 use Rattle.elimination.proofs.Endings.{ending-length}
 use Rattle.elimination.proofs.Boards.{from-at, board-total, best-board}
+use Rattle.rule.specs.Rule.{Allowed}
 use Rattle.rule.specs.declared.Rule.{Rule}
-use Rattle.life.specs.Rows.{rowOf}
-use Rattle.solver.specs.Grid.{Solution, score, Precedes, Optimal}
+use Rattle.solver.specs.Grid.{SolutionBy, BoardBy, heldRow, score, Precedes, OptimalBy}
 use Rattle.board_rows.specs.Rows.{rowCell, putRow, readRow}
 use Rattle.board_rows.proofs.Writing.{written-cell, cell-small}
-use Rattle.board_rows.proofs.Theorems.{reads-as-row, row-writer}
+use Rattle.board_rows.proofs.Theorems.{row-writer}
 use Rattle.solver.specs.Theorems.{allRows}
-use Rattle.job.proofs.Fits.{Frame}
-use Rattle.solver.proofs.RowLaws.{row-none, same-rows}
+use Rattle.solver.proofs.RowLaws.{Place, place}
+use Rattle.solver.proofs.HeldRows.{digits-le, held-none, held-reads, same-held, HeldCells, held-mirrored, solution-board}
 use Rattle.solver.proofs.Endings.{kind, kind-laws, solution-ends, ends-solution, total-score}
 
 -- ---- one row written: the row with r rows above it becomes c
--- the first n bytes are cells
-abbrev Cells : List ℕ → ℕ → Type 0
-Cells board n = (p : ℕ) → p < n → getD board p 0 ≤ 1
+-- a grid's rows stand in its board, with a binary digit for each cell or for each of the left half
+pub rows-stand : (halves : Bool) (w : ℕ) → RowWriter w (2 ^ rowDigits halves w) (putRow (rowDigits halves w) w) (readRow (rowDigits halves w) w)
+rows-stand halves w = row-writer (rowDigits halves w) w (digits-le halves w)
 
--- a grid's rows stand in its board, with a binary digit for each cell
-pub rows-stand : (w : ℕ) → RowWriter w (2 ^ w) (putRow w w) (readRow w w)
-rows-stand w = row-writer w w (omega arith)
+module _ (halves : Bool) (w h r c : ℕ) (β : List ℕ) where
+  abbrev put : List ℕ
+  put = putRow (rowDigits halves w) w r c β
 
-module _ (w r c : ℕ) (β : List ℕ) where
-  put-cells : suc r * w ≤ length β → Cells β (r * w) → Cells (putRow w w r c β) (suc r * w)
-  put-cells f b p l =
-      ⊎-elim (λ (q : p < r * w). rw (rows-stand w .only r c β .above p q) (b p q))
-      (λ (q : r * w ≤ p).
-      let k = p - r * w in
-      let e : r * w + k ≡ p = omega arith in
-      subst (λ (x : ℕ). getD (putRow w w r c β) x 0 ≤ 1) e (rw (written-cell (rowCell w c) β (r * w) w k (omega arith) (omega arith)) (cell-small w c k)))
-      (lt-or-ge p (r * w))
+  put-same : r < h → c < 2 ^ rowDigits halves w → suc r * w ≤ length β → heldRow halves w h put (suc r) ≡ c
+  put-same q l f = held-reads halves w h r put q ∙ rows-stand halves w .back r c β l f
 
-  module _ (h : ℕ) where
-    put-same : r < h → c < 2 ^ w → suc r * w ≤ length β → rowOf w h (putRow w w r c β) (suc r) ≡ c
-    put-same q l f = reads-as-row w h r (putRow w w r c β) q ∙ rows-stand w .back r c β l f
+  put-other : (i : ℕ) → i < r → r < h → heldRow halves w h put (suc i) ≡ heldRow halves w h β (suc i)
+  put-other i l q =
+      held-reads halves w h i put (omega arith)
+      ∙ rows-stand halves w .alike i put β (λ p a b. rows-stand halves w .only r c β .above p (omega (arith, mul-le-mul-right w l)))
+      ∙ sym (held-reads halves w h i β (omega arith))
 
-    put-other : (i : ℕ) → i < r → r < h → rowOf w h (putRow w w r c β) (suc i) ≡ rowOf w h β (suc i)
-    put-other i l q =
-        reads-as-row w h i (putRow w w r c β) (omega arith)
-        ∙ rows-stand w .alike i (putRow w w r c β) β (λ p a b. rows-stand w .only r c β .above p (omega (arith, mul-le-mul-right w l)))
-        ∙ sym (reads-as-row w h i β (omega arith))
+  put-cells : r < h → c < 2 ^ rowDigits halves w → suc r * w ≤ length β → HeldCells halves w h β r → HeldCells halves w h put (suc r)
+  put-cells q m f S i k l n =
+      ⊎-elim
+      (λ (e : i < r).
+      rows-stand halves w .only r c β .above (i * w + k) (omega (arith, mul-le-mul-right w e)) ∙ S i k e n
+      ∙ ap (λ (x : ℕ). rowCell (rowDigits halves w) x k) (sym (put-other i e q)))
+      (λ (e : r ≤ i).
+      let s : i ≡ r = omega arith in
+      rw (s, put-same q m f) (written-cell (rowCell (rowDigits halves w) c) β (r * w) w k n (omega arith)))
+      (lt-or-ge i r)
 
 -- ---- many rows written
 -- every row is a row's number
@@ -71,120 +71,146 @@ ends-rows G zero a b (c ∷ cs) e = absurd e
 ends-rows G (suc k) a b [] e = absurd e
 ends-rows G (suc k) a b (c ∷ cs) e = (e .0, ends-rows G k b c cs (e .2))
 
-module _ (w : ℕ) where
-  rows-length : (r : ℕ) (cs β : List ℕ) → length (writeRows (putRow w w) r cs β) ≡ length β
+module _ (halves : Bool) (w h : ℕ) where
+  -- the board once the rows that follow row r are cs
+  abbrev putAll : ℕ → List ℕ → List ℕ → List ℕ
+  putAll = writeRows (putRow (rowDigits halves w) w)
+
+  rows-length : (r : ℕ) (cs β : List ℕ) → length (putAll r cs β) ≡ length β
   unfolding writeRows
   rows-length r [] β = refl
-  rows-length r (c ∷ cs) β = rows-length (suc r) cs (putRow w w r c β) ∙ rows-stand w .only r c β .size
+  rows-length r (c ∷ cs) β = rows-length (suc r) cs (put halves w h r c β) ∙ rows-stand halves w .only r c β .size
 
-  rows-cells : (r : ℕ) (cs β : List ℕ) → (r + length cs) * w ≤ length β → Cells β (r * w) → Cells (writeRows (putRow w w) r cs β) ((r + length cs) * w)
+  rows-before : (r : ℕ) (cs β : List ℕ) → r + length cs ≤ h → (i : ℕ) → i < r → heldRow halves w h (putAll r cs β) (suc i) ≡ heldRow halves w h β (suc i)
   unfolding writeRows
-  rows-cells r [] β f b = let e : r + 0 ≡ r = omega arith in rw e b
-  rows-cells r (c ∷ cs) β f b =
+  rows-before r [] β f i l = refl
+  rows-before r (c ∷ cs) β f i l = rows-before (suc r) cs (put halves w h r c β) (omega arith) i (omega arith) ∙ put-other halves w h r c β i l (omega arith)
+
+  -- the rows and the board have room for them
+  record Room (r : ℕ) (cs β : List ℕ) : Type 0 where
+    low : Below (2 ^ rowDigits halves w) cs
+    high : r + length cs ≤ h
+    long : (r + length cs) * w ≤ length β
+
+  room-more : (r c : ℕ) (cs β : List ℕ) → Room r (c ∷ cs) β → Room (suc r) cs (put halves w h r c β)
+  room-more r c cs β R =
       let e : r + suc (length cs) ≡ suc r + length cs = omega arith in
-      let f′ : (suc r + length cs) * w ≤ length β = rw e at f in
-      rw e (rows-cells (suc r) cs (putRow w w r c β) (rw (rows-stand w .only r c β .size) f′) (put-cells w r c β (omega arith) b))
+      record { low = R .low .1; high = omega (arith, R .high); long = rw (rows-stand halves w .only r c β .size) (rw e at (R .long)) }
 
-  module _ (h : ℕ) where
-    rows-before : (r : ℕ) (cs β : List ℕ) → r + length cs ≤ h → (i : ℕ) → i < r → rowOf w h (writeRows (putRow w w) r cs β) (suc i) ≡ rowOf w h β (suc i)
-    unfolding writeRows
-    rows-before r [] β f i l = refl
-    rows-before r (c ∷ cs) β f i l = rows-before (suc r) cs (putRow w w r c β) (omega arith) i (omega arith) ∙ put-other w r c β h i l (omega arith)
+  rows-back : (r : ℕ) (cs β : List ℕ) → Room r cs β → rowsFrom (heldRow halves w h (putAll r cs β)) r (length cs) ≡ cs
+  unfolding writeRows rowsFrom
+  rows-back r [] β R = refl
+  rows-back r (c ∷ cs) β R =
+      let N = room-more r c cs β R in
+      ap₂ (λ (x : ℕ) (y : List ℕ). x ∷ y)
+      (rows-before (suc r) cs (put halves w h r c β) (N .high) r (omega arith) ∙ put-same halves w h r c β (omega (arith, R .high)) (R .low .0) (omega (arith, R .long)))
+      (rows-back (suc r) cs (put halves w h r c β) N)
 
-    rows-back : (r : ℕ) (cs β : List ℕ) → Below (2 ^ w) cs → r + length cs ≤ h → (r + length cs) * w ≤ length β
-        → rowsFrom (rowOf w h (writeRows (putRow w w) r cs β)) r (length cs) ≡ cs
-    unfolding writeRows rowsFrom
-    rows-back r [] β b m f = refl
-    rows-back r (c ∷ cs) β b m f =
-        let e : r + suc (length cs) ≡ suc r + length cs = omega arith in
-        let f′ : (suc r + length cs) * w ≤ length β = rw e at f in
-        ap₂ (λ (x : ℕ) (y : List ℕ). x ∷ y)
-        (rows-before (suc r) cs (putRow w w r c β) (omega arith) r (omega arith) ∙ put-same w r c β h (omega arith) (b .0) (omega arith))
-        (rows-back (suc r) cs (putRow w w r c β) (b .1) (omega arith) (rw (rows-stand w .only r c β .size) f′))
+  rows-cells : (r : ℕ) (cs β : List ℕ) → Room r cs β → HeldCells halves w h β r → HeldCells halves w h (putAll r cs β) (r + length cs)
+  unfolding writeRows
+  rows-cells r [] β R S = let e : r + 0 ≡ r = omega arith in rw e S
+  rows-cells r (c ∷ cs) β R S =
+      let e : r + suc (length cs) ≡ suc r + length cs = omega arith in
+      rw e (rows-cells (suc r) cs (put halves w h r c β) (room-more r c cs β R)
+      (put-cells halves w h r c β (omega (arith, R .high)) (R .low .0) (omega (arith, R .long)) S))
 
 -- ---- h rows, written into a board
-abbrev pub writtenInto : ℕ → List ℕ → List ℕ → List ℕ
-writtenInto w cs β = writeRows (putRow w w) 0 cs β
+abbrev pub writtenInto : Bool → ℕ → List ℕ → List ℕ → List ℕ
+writtenInto halves w cs β = writeRows (putRow (rowDigits halves w) w) 0 cs β
 
--- h rows of w cells, as numbers
-record RowNumbers (w h : ℕ) (cs : List ℕ) : Type 0 where
-  low : Below (2 ^ w) cs
+-- h rows, as the numbers that they are held as
+record RowNumbers (halves : Bool) (w h : ℕ) (cs : List ℕ) : Type 0 where
+  low : Below (2 ^ rowDigits halves w) cs
   many : length cs ≡ h
 
-module _ {w h : ℕ} {cs : List ℕ} (R : RowNumbers w h cs) (β : List ℕ) (size : length β ≡ w * h) where
+module _ {halves : Bool} {w h : ℕ} (z : SizedBy halves w h) {cs : List ℕ} (R : RowNumbers halves w h cs) (β : List ℕ) (size : length β ≡ w * h) where
   all : 0 + length cs ≡ h
-  all = omega arith
+  all = omega (arith, R .many)
 
-  room : (0 + length cs) * w ≤ length β
-  room = rw (all, size, mul-comm w h) (omega arith)
+  room : Room halves w h 0 cs β
+  room = record { low = R .low; high = omega (arith, all); long = rw (all, size, mul-comm w h) (omega arith) }
 
-  into-rows : allRows w h (writtenInto w cs β) ≡ cs
-  into-rows = subst (λ (k : ℕ). rowsFrom (rowOf w h (writtenInto w cs β)) 0 k ≡ cs) (R .many) (rows-back w h 0 cs β (R .low) (omega arith) room)
+  into-rows : allRows halves w h (writtenInto halves w cs β) ≡ cs
+  into-rows = subst (λ (k : ℕ). rowsFrom (heldRow halves w h (writtenInto halves w cs β)) 0 k ≡ cs) (R .many) (rows-back halves w h 0 cs β room)
 
-  into-bytes : Bytes 1 w h (writtenInto w cs β)
-  into-bytes =
-      let long = rows-length w 0 cs β ∙ size in record {
-        long = long;
-        states = λ p l. rows-cells w 0 cs β room (λ q m. absurd (omega arith)) p (rw (all, mul-comm h w) (rw long at l));
+  into-cells : HeldCells halves w h (writtenInto halves w cs β) h
+  into-cells = subst (HeldCells halves w h (writtenInto halves w cs β)) all (rows-cells halves w h 0 cs β room (λ r k l q. absurd (omega arith)))
+
+  into-board : BoardBy halves w h (writtenInto halves w cs β)
+  into-board =
+      let long = rows-length halves w h 0 cs β ∙ size in record {
+        size = z;
+        bytes = record { long = long; states = λ p l. at p (place w h p (z .some-column) (rw long at l)) };
+        mirrored = held-mirrored halves (writtenInto halves w cs β) z long into-cells;
       }
+    where
+      at : (p : ℕ) → Place w h p → getD (writtenInto halves w cs β) p 0 ≤ 1
+      at p q =
+          rw (q .is, into-cells (q .row) (q .column) (q .inside) (q .narrow))
+          (cell-small (rowDigits halves w) (heldRow halves w h (writtenInto halves w cs β) (suc (q .row))) (q .column))
 
 -- a dead board, and the board of the rows cs
 abbrev blank : ℕ → ℕ → List ℕ
 blank w h = replicate (w * h) 0
 
-abbrev pub boardOf : ℕ → ℕ → List ℕ → List ℕ
-boardOf w h cs = writtenInto w cs (blank w h)
+abbrev pub boardOf : Bool → ℕ → ℕ → List ℕ → List ℕ
+boardOf halves w h cs = writtenInto halves w cs (blank w h)
 
 blank-size : (w h : ℕ) → length (blank w h) ≡ w * h
 blank-size w h = length-replicate (w * h) 0
 
 -- wherever they are written, the rows make one board
-into-same : {w h : ℕ} {cs : List ℕ} → 0 < w → RowNumbers w h cs → (β : List ℕ) → length β ≡ w * h → writtenInto w cs β ≡ boardOf w h cs
-into-same {w} {h} {cs} wide R β size =
-    let rows = into-rows R β size ∙ sym (into-rows R (blank w h) (blank-size w h)) in
-    same-rows wide (into-bytes R β size) (into-bytes R (blank w h) (blank-size w h))
-    (λ r l. from-at (rowOf w h (writtenInto w cs β)) (rowOf w h (boardOf w h cs)) h 0 rows r (omega arith) (omega arith))
+into-same : {halves : Bool} {w h : ℕ} → SizedBy halves w h → {cs : List ℕ} → RowNumbers halves w h cs → (β : List ℕ) → length β ≡ w * h
+    → writtenInto halves w cs β ≡ boardOf halves w h cs
+into-same {halves} {w} {h} z {cs} R β size =
+    let rows = into-rows z R β size ∙ sym (into-rows z R (blank w h) (blank-size w h)) in
+    same-held halves (into-board z R β size) (into-board z R (blank w h) (blank-size w h))
+    (λ r l. from-at (heldRow halves w h (writtenInto halves w cs β)) (heldRow halves w h (boardOf halves w h cs)) h 0 rows r (omega arith) (omega arith))
 
 -- ---- board order
-precedes : {w h : ℕ} {board other : List ℕ} → Earlier false h (rowOf w h board) (rowOf w h other) → Precedes w h board other
-precedes {w} {h} {board} {other} E = record { row = suc (E .place); inside = E .inside; equal = equal; smaller = ltb-true _ _ (E .decides) }
+precedes : (halves : Bool) (w h : ℕ) (board other : List ℕ) → Earlier false h (heldRow halves w h board) (heldRow halves w h other) → Precedes halves w h board other
+precedes halves w h board other E = record { row = suc (E .place); inside = E .inside; equal = equal; smaller = ltb-true _ _ (E .decides) }
   where
     -- row 0 too
-    equal : (r : ℕ) → r < suc (E .place) → rowOf w h board r ≡ rowOf w h other r
-    equal zero l = row-none w h board ∙ sym (row-none w h other)
+    equal : (r : ℕ) → r < suc (E .place) → heldRow halves w h board r ≡ heldRow halves w h other r
+    equal zero l = held-none halves w h board ∙ sym (held-none halves w h other)
     equal (suc r) l = E .equal r (omega arith)
 
 -- ---- the optimal board
-module _ {rule : Rule} {w h : ℕ} (z : Frame rule w h) (g : List ℕ) where
-  rows-of : (cs : List ℕ) → Ending (kind rule w h g) h 0 0 cs → RowNumbers w h cs
-  rows-of cs E = record { low = ends-rows (kind rule w h g) h 0 0 cs E; many = ending-length (kind rule w h g) h 0 0 cs E }
+module _ {rule : Rule} (allowed : Allowed rule) {halves : Bool} {w h : ℕ} (z : SizedBy halves w h) (g : List ℕ) where
+  rows-of : (cs : List ℕ) → Ending (kind halves rule w h g) h 0 0 cs → RowNumbers halves w h cs
+  rows-of cs E = record { low = ends-rows (kind halves rule w h g) h 0 0 cs E; many = ending-length (kind halves rule w h g) h 0 0 cs E }
+
+  board-by : (b : List ℕ) → SolutionBy halves rule w h g b → BoardBy halves w h b
+  board-by b S = solution-board halves rule g b z S
 
   -- a grid's boards are tied to its endings
-  pub grid-boards : BoardLaws (kind rule w h g) h (rowOf w h) (Solution rule w h g) (score w h g) (boardOf w h)
+  pub grid-boards : BoardLaws (kind halves rule w h g) h (heldRow halves w h) (SolutionBy halves rule w h g) (score w h g) (boardOf halves w h)
   grid-boards = record {
-    ends = λ b S. solution-ends (z .allowed) (S .grid) g S;
+    ends = λ b S. solution-ends halves allowed (board-by b S) g S;
     solves = λ cs E.
-        let B : Board w h (boardOf w h cs) = record { size = z .size; bytes = into-bytes (rows-of cs E) (blank w h) (blank-size w h) } in
-        ends-solution (z .allowed) B g (rw (into-rows (rows-of cs E) (blank w h) (blank-size w h)) E);
-    rows = λ cs E. into-rows (rows-of cs E) (blank w h) (blank-size w h);
-    same = λ a b S T e. same-rows (z .size .some-column) (S .grid .bytes) (T .grid .bytes) e;
-    counts = λ b S. total-score (z .allowed) (S .grid) g;
+        let R = rows-of cs E in
+        ends-solution halves allowed (into-board z R (blank w h) (blank-size w h)) g (rw (into-rows z R (blank w h) (blank-size w h)) E);
+    rows = λ cs E. into-rows z (rows-of cs E) (blank w h) (blank-size w h);
+    same = λ a b S T e. same-held halves (board-by a S) (board-by b T) e;
+    counts = λ b S. total-score halves allowed (board-by b S) g;
   }
 
-  pub grid-into : (cs : List ℕ) → Ending (kind rule w h g) h 0 0 cs → (β : List ℕ) → length β ≡ w * h → writtenInto w cs β ≡ boardOf w h cs
-  grid-into cs E = into-same (z .size .some-column) (rows-of cs E)
+  pub grid-into : (cs : List ℕ) → Ending (kind halves rule w h g) h 0 0 cs → (β : List ℕ) → length β ≡ w * h → writtenInto halves w cs β ≡ boardOf halves w h cs
+  grid-into cs E = into-same z (rows-of cs E)
 
   -- the best board is the optimal one
-  pub optimal-of : {board : List ℕ} → BestBoard (kind rule w h g) h (rowOf w h) (Solution rule w h g) (score w h g) board → Optimal rule w h g board
+  pub optimal-of : {board : List ℕ} → BestBoard (kind halves rule w h g) h (heldRow halves w h) (SolutionBy halves rule w h g) (score w h g) board → OptimalBy halves rule w h g board
   optimal-of {board} B = record {
     solution = B .solution;
     most = λ other S. ltb-false (score w h g board) (score w h g other) (B .unbeaten other S);
-    earliest = λ other S q. ⊎-elim inl (λ (E : Earlier false h (rowOf w h board) (rowOf w h other)). inr (precedes E)) (B .earliest other S (equal-tied false q));
+    earliest = λ other S q.
+        ⊎-elim inl (λ (E : Earlier false h (heldRow halves w h board) (heldRow halves w h other)). inr (precedes halves w h board other E)) (B .earliest other S (equal-tied false q));
   }
 
-  module _ {x : ℕ} {cs : List ℕ} (T : BestEnding (kind rule w h g) h 0 0 x cs) where
-    pub is-total : score w h g (boardOf w h cs) ≡ total (kind rule w h g) cs
+  module _ {x : ℕ} {cs : List ℕ} (T : BestEnding (kind halves rule w h g) h 0 0 x cs) where
+    pub is-total : score w h g (boardOf halves w h cs) ≡ total (kind halves rule w h g) cs
     is-total = board-total grid-boards T
 
-    pub optimal : Optimal rule w h g (boardOf w h cs)
-    optimal = optimal-of (best-board grid-boards T (kind-laws rule w h g (z .size)))
+    pub optimal : OptimalBy halves rule w h g (boardOf halves w h cs)
+    optimal = optimal-of (best-board grid-boards T (kind-laws halves rule w h g z))

@@ -1,7 +1,7 @@
 -- What is done by now, in the terms of a grid's table and board, from what the units of any plan leave.
 -- Assumes nothing.
 use mathlib.Core.Path.{_≡_, refl, sym, _∙_, ap, ap₂, subst}
-use mathlib.Core.Bool.{true, false, cond}
+use mathlib.Core.Bool.{Bool, true, false, cond}
 use mathlib.Core.List.{List}
 use Prim.Native.Nat.{ℕ, zero, suc, _+_, _*_, _-_, _/_, _%_, _^_, _≤_, _<_}
 use native.Mathlib.Omega.{arith}
@@ -10,7 +10,9 @@ use lib.Dec.{eqb}
 use Rattle.board.specs.Checks.{tableSize}
 use Rattle.elimination.specs.Task.{Task, fill, row}
 use Rattle.elimination.specs.Table.{rightAt}
+use Rattle.elimination.specs.FillThenChoose as Whole
 use Rattle.elimination.specs.TwoLayers as Two
+use Rattle.elimination.specs.Job.{Setup}
 use Rattle.elimination.specs.Places as Places
 use Rattle.elimination.specs.Shape.{rowsChosen, entriesFilled}
 use Rattle.elimination.specs.Progress.{Written, rowAt, worthSoFar, Carried}
@@ -19,23 +21,23 @@ use Rattle.elimination.proofs.FillThenChoose.{stands, writes-not}
 use Rattle.elimination.proofs.Table.{right-at-entry}
 use Rattle.elimination.proofs.Progress.{worth-none, worth-more}
 use Rattle.rule.specs.declared.Rule.{Rule}
-use Rattle.board.specs.Boards.{Board}
+use Rattle.board.specs.Boards.{rowDigits}
 use Rattle.life.specs.Rows.{rowOf}
-use Rattle.score_table.specs.Rows.{rowWorth}
+use Rattle.score_table.specs.Rows.{rowWorth, rowFor}
 use Rattle.service.specs.JobKinds.{rowsIn}
-use Rattle.job.specs.Jobs.{boardLength, planOf, chosenIn, shapeOf, aboveOf, lastOf, liveOf, markOf, numbersOf, jobFits}
+use Rattle.job.specs.Jobs.{halvesOf, kindDigits, boardLength, planOf, chosenIn, shapeOf, aboveOf, lastOf, liveOf, markOf, numbersOf, jobFits}
 use Rattle.job.specs.declared.Kind.{Kind}
 use Rattle.job.proofs.Shapes.{shape-rounds, shape-orderly, shorter, chosen-once, rows-are-choosing-units}
 use Rattle.job.proofs.Fits.{Frame, numbers-at, fits-numbers}
 use Rattle.board.proofs.Powers.{four-two, table-four}
-use Rattle.score_table.specs.ScoreTable.{halfPlace, InPlace}
-use Rattle.score_table.proofs.Places.{place-same, halves-right}
-use Rattle.solver.specs.Grid.{score, Optimal}
+use Rattle.score_table.specs.ScoreTable.{mostLive, twoLayerPlace, InPlace}
+use Rattle.score_table.proofs.Places.{place-same, two-layers-right}
+use Rattle.solver.specs.Grid.{BoardBy, heldRow, score, OptimalBy}
 use Rattle.solver.specs.Units.{State, setupOf}
-use Rattle.solver.specs.Demand.{rightUnit, FilledTo, HalvesTo, TableAfter, Progress, Of, gridKind}
-use Rattle.solver.proofs.RowLaws.{row-none, score-more, score-none}
+use Rattle.solver.specs.Demand.{rightUnit, FilledTo, TwoLayersTo, TableAfter, Progress, Of, gridKind}
+use Rattle.solver.proofs.RowLaws.{score-more, score-none}
+use Rattle.solver.proofs.HeldRows.{held-none, held-reads, row-held, solution-board}
 use Rattle.board_rows.specs.Rows.{readRow}
-use Rattle.board_rows.proofs.Theorems.{reads-as-row}
 use Rattle.solver.proofs.Endings.{kind}
 
 -- at most as many units are done as a job with a board has
@@ -56,22 +58,25 @@ units-are jobKind w h u m high U = go m U (rows-are-choosing-units jobKind w h u
     go m (ends e) s = omega (arith, s)
     go m (fails e) s = omega (arith, s, ap (chosenIn jobKind w h) e, chosen-once jobKind w h high)
 
--- the table: its right numbers are row elimination's
-module _ (rule : Rule) (w h : ℕ) (g : List ℕ) where
-  right-same : (u : ℕ) → rightUnit rule w h g u ≡ rightAt (kind rule w h g) (u / (2 ^ w * 2 ^ w)) (u % (2 ^ w * 2 ^ w))
-  unfolding rightUnit
-  right-same u = rw (four-two w) (sym (right-at-entry (kind rule w h g) (u / (2 ^ w * 2 ^ w)) (u % (2 ^ w * 2 ^ w))))
+-- the table: its right numbers are row elimination's, where a row's number has d binary digits
+module _ (halves : Bool) (rule : Rule) (w h : ℕ) (g : List ℕ) where
+  abbrev d : ℕ
+  d = rowDigits halves w
 
-table-filled : (rule : Rule) (w h : ℕ) (g : List ℕ) (m n : ℕ) → m ≡ n + (m - tableSize w h) → (t₀ t : List ℕ)
-    → Places.Filled (kind rule w h g) (planOf Kind.Ordinary w h) m t₀ t → FilledTo rule w h g n t₀ t
-table-filled rule w h g m n split t₀ t F = record {
-  size = F .size;
-  right = λ u l.
-      let b : u < h * (2 ^ w * 2 ^ w) = omega (arith, split, table-four w h) in
-      let S = stands h (2 ^ w * 2 ^ w) u m b (omega (arith, split)) in
-      rw (place-same w h u, right-same rule w h g u) (F .right _ _ _ S);
-  rest = λ p f. F .rest p (λ v l. writes-not h (2 ^ w * 2 ^ w) v p (λ b e. f v (omega (arith, split, table-four w h)) (e ∙ sym (place-same w h v))));
-}
+  right-same : (u : ℕ) → rightUnit halves rule w h g u ≡ rightAt (kind halves rule w h g) (u / (2 ^ d * 2 ^ d)) (u % (2 ^ d * 2 ^ d))
+  unfolding rightUnit
+  right-same u = rw (four-two d) (sym (right-at-entry (kind halves rule w h g) (u / (2 ^ d * 2 ^ d)) (u % (2 ^ d * 2 ^ d))))
+
+  table-filled : (m n : ℕ) → m ≡ n + (m - tableSize d h) → (t₀ t : List ℕ)
+      → Places.Filled (kind halves rule w h g) (Whole.plan h (2 ^ d * 2 ^ d)) m t₀ t → FilledTo halves rule w h g n t₀ t
+  table-filled m n split t₀ t F = record {
+    size = F .size;
+    right = λ u l.
+        let b : u < h * (2 ^ d * 2 ^ d) = omega (arith, split, table-four d h) in
+        let S = stands h (2 ^ d * 2 ^ d) u m b (omega (arith, split)) in
+        rw (place-same d h u, right-same u) (F .right _ _ _ S);
+    rest = λ p f. F .rest p (λ v l. writes-not h (2 ^ d * 2 ^ d) v p (λ b e. f v (omega (arith, split, table-four d h)) (e ∙ sym (place-same d h v))));
+  }
 
 -- no unit writes past the two halves
 writes-past : (w h v p : ℕ) → v < boardLength Kind.TwoLayers w h → 2 * 4 ^ w ≤ p → Places.writes (planOf Kind.TwoLayers w h v) p ≡ false
@@ -84,53 +89,65 @@ writes-past w h v p l b = go (planOf Kind.TwoLayers w h v) refl
 
 -- what a unit fills lies in its layer's half
 stands-half : (w h v k source target j : ℕ) → v < boardLength Kind.TwoLayers w h → planOf Kind.TwoLayers w h v ≡ fill k source target j
-    → target + j ≡ halfPlace w (h - k) (j / 2 ^ w) (j % 2 ^ w)
+    → target + j ≡ twoLayerPlace w (h - k) (j / 2 ^ w) (j % 2 ^ w)
 stands-half w h v k source target j l e =
     let long : Two.startOf h (2 ^ w * 2 ^ w) h ≡ boardLength Kind.TwoLayers w h =
     ap (λ (q : ℕ). Two.startOf h q h) (sym (four-two w)) ∙ shape-rounds w h Kind.TwoLayers .board in
-    subst (InPlace (halfPlace w) w h) e (halves-right w h v (rw long l)) .0
+    subst (InPlace (twoLayerPlace w) w h) e (two-layers-right w h v (rw long l)) .0
 
-halves-filled : (rule : Rule) (w h : ℕ) (g : List ℕ) (m : ℕ) → m ≤ boardLength Kind.TwoLayers w h → (t₀ t : List ℕ)
-    → Places.Filled (kind rule w h g) (planOf Kind.TwoLayers w h) m t₀ t → HalvesTo rule w h g m t₀ t
-halves-filled rule w h g m few t₀ t F = record {
+two-layers-filled : (rule : Rule) (w h : ℕ) (g : List ℕ) (m : ℕ) → m ≤ boardLength Kind.TwoLayers w h → (t₀ t : List ℕ)
+    → Places.Filled (kind false rule w h g) (planOf Kind.TwoLayers w h) m t₀ t → TwoLayersTo rule w h g m t₀ t
+two-layers-filled rule w h g m few t₀ t F = record {
   size = F .size;
   stands = λ p k j S. S .place ∙ stands-half w h (S .unit) k (S .source) (S .target) j (omega (arith, S .before)) (S .fills);
-  right = λ p k j S. F .right p k j S ∙ right-at-entry (kind rule w h g) k j;
+  right = λ p k j S. F .right p k j S ∙ right-at-entry (kind false rule w h g) k j;
   rest = F .rest;
   past = λ p b. F .rest p (λ v l. writes-past w h v p (omega arith) b);
 }
 
 -- by the kind
 table-after : (jobKind : Kind) (rule : Rule) (w h : ℕ) (g : List ℕ) (m : ℕ) → 0 < h → m ≤ boardLength jobKind w h → (t₀ t : List ℕ)
-    → Places.Filled (kind rule w h g) (planOf jobKind w h) m t₀ t → TableAfter jobKind rule w h g m t₀ t
+    → Places.Filled (kind (halvesOf jobKind) rule w h g) (planOf jobKind w h) m t₀ t → TableAfter jobKind rule w h g m t₀ t
 table-after Kind.Ordinary rule w h g m high few t₀ t F =
-    table-filled rule w h g m (entriesFilled (planOf Kind.Ordinary w h) m) (rows-are-choosing-units Kind.Ordinary w h m high few) t₀ t F
-table-after Kind.TwoLayers rule w h g m high few t₀ t F = halves-filled rule w h g m few t₀ t F
+    table-filled false rule w h g m (entriesFilled (planOf Kind.Ordinary w h) m) (rows-are-choosing-units Kind.Ordinary w h m high few) t₀ t F
+table-after Kind.TwoLayers rule w h g m high few t₀ t F = two-layers-filled rule w h g m few t₀ t F
+table-after Kind.Mirror rule w h g m high few t₀ t F =
+    table-filled true rule w h g m (entriesFilled (planOf Kind.Mirror w h) m) (rows-are-choosing-units Kind.Mirror w h m high few) t₀ t F
 
-module _ (jobKind : Kind) {rule : Rule} {w h : ℕ} (z : Frame rule w h) (g : List ℕ) where
+module _ (jobKind : Kind) {rule : Rule} {w h : ℕ} (z : Frame jobKind rule w h) (g : List ℕ) where
+  abbrev halves : Bool
+  halves = halvesOf jobKind
+
+  abbrev reads : ℕ → List ℕ → ℕ
+  reads = readRow (kindDigits jobKind w) w
+
+  abbrev setup : Setup ℕ (List ℕ)
+  setup = setupOf jobKind rule w h g
+
   -- row i, counted from 1
-  row-same : (wanted : List ℕ) (i : ℕ) → i ≤ h → rowAt (readRow w w) wanted i ≡ rowOf w h wanted i
-  row-same wanted zero l = sym (row-none w h wanted)
-  row-same wanted (suc r) l = sym (reads-as-row w h r wanted l)
+  row-same : (wanted : List ℕ) (i : ℕ) → i ≤ h → rowAt reads wanted i ≡ heldRow halves w h wanted i
+  row-same wanted zero l = sym (held-none halves w h wanted)
+  row-same wanted (suc r) l = sym (held-reads halves w h r wanted l)
 
   -- what the first k rows of a board are worth is their score
-  worth-score : {wanted : List ℕ} → Board w h wanted → (k : ℕ) → k ≤ h → worthSoFar (setupOf jobKind rule w h g) (readRow w w) wanted k ≡ score w k g wanted
-  worth-score {wanted} B zero l = worth-none (setupOf jobKind rule w h g) (readRow w w) wanted ∙ sym (score-none w g wanted)
+  worth-score : {wanted : List ℕ} → BoardBy halves w h wanted → (k : ℕ) → k ≤ h → worthSoFar setup reads wanted k ≡ score w k g wanted
+  worth-score {wanted} B zero l = worth-none setup reads wanted ∙ sym (score-none w g wanted)
   worth-score {wanted} B (suc r) l =
       let e : h - suc (h - suc r) ≡ r = omega arith in
-      let m : rowWorth w g ((h - suc (h - suc r)) * w) (readRow w w r wanted) ≡ rowWorth w g (r * w) (rowOf w h wanted (suc r)) =
-      ap₂ (λ (x c : ℕ). rowWorth w g (x * w) c) e (row-same wanted (suc r) l) in
-      worth-more (setupOf jobKind rule w h g) (readRow w w) wanted r ∙ omega (arith, m, worth-score B r (omega arith), score-more (B .bytes) g r l)
+      let c : rowFor (mostLive halves) w (reads r wanted) ≡ rowOf w h wanted (suc r) = ap (rowFor (mostLive halves) w) (row-same wanted (suc r) l) ∙ row-held halves B (suc r) l in
+      let m : rowWorth w g ((h - suc (h - suc r)) * w) (rowFor (mostLive halves) w (reads r wanted)) ≡ rowWorth w g (r * w) (rowOf w h wanted (suc r)) =
+      ap₂ (λ (x y : ℕ). rowWorth w g (x * w) y) e c in
+      worth-more setup reads wanted r ∙ omega (arith, m, worth-score B r (omega arith), score-more (B .bytes) g r l)
 
-  carried-score : (wanted : List ℕ) (k x : ℕ) → (0 < k → Optimal rule w h g wanted) → k ≤ h → x ≡ worthSoFar (setupOf jobKind rule w h g) (readRow w w) wanted k → x ≡ score w k g wanted
-  carried-score wanted zero x o l e = e ∙ worth-none (setupOf jobKind rule w h g) (readRow w w) wanted ∙ sym (score-none w g wanted)
-  carried-score wanted (suc k) x o l e = e ∙ worth-score (o (omega arith) .solution .grid) (suc k) l
+  carried-score : (wanted : List ℕ) (k x : ℕ) → (0 < k → OptimalBy halves rule w h g wanted) → k ≤ h → x ≡ worthSoFar setup reads wanted k → x ≡ score w k g wanted
+  carried-score wanted zero x o l e = e ∙ worth-none setup reads wanted ∙ sym (score-none w g wanted)
+  carried-score wanted (suc k) x o l e = e ∙ worth-score (solution-board halves rule g wanted (z .size) (o (omega arith) .solution)) (suc k) l
 
   pub progress : (wanted : List ℕ) (before now : State) → Of jobKind rule w h (now .job) → jobFits (now .job) ≡ true
-      → (0 < rowsIn (gridKind jobKind rule w h g) (now .job) → Optimal rule w h g wanted)
-      → Places.Filled (kind rule w h g) (planOf jobKind w h) (now .job .units) (before .table) (now .table)
+      → (0 < rowsIn (gridKind jobKind rule w h g) (now .job) → OptimalBy halves rule w h g wanted)
+      → Places.Filled (kind halves rule w h g) (planOf jobKind w h) (now .job .units) (before .table) (now .table)
       → Written w (rowsIn (gridKind jobKind rule w h g) (now .job)) wanted (before .board) (now .board)
-      → Carried (setupOf jobKind rule w h g) (readRow w w) (rowsIn (gridKind jobKind rule w h g) (now .job)) wanted (aboveOf (now .job .stage)) (lastOf (now .job .stage)) (liveOf (now .job .stage))
+      → Carried setup reads (rowsIn (gridKind jobKind rule w h g) (now .job)) wanted (aboveOf (now .job .stage)) (lastOf (now .job .stage)) (liveOf (now .job .stage))
       → Progress jobKind rule w h g wanted before now
   progress wanted before now O f o F E C =
       let j = now .job in

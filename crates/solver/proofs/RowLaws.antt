@@ -1,24 +1,22 @@
 -- Rows and cells: a row's digits are its cells, its worth is what they earn, and a board is its rows.
 -- Assumes nothing.
 use mathlib.Core.Path.{_≡_, refl, sym, _∙_, ap}
-use mathlib.Core.Bool.{Bool, true, false, cond}
 use mathlib.Core.List.{List}
-use Prim.Native.Nat.{ℕ, suc, _+_, _*_, _-_, _/_, _%_, _^_, _<_}
+use Prim.Native.Nat.{ℕ, suc, _+_, _*_, _-_, _/_, _%_, _<_}
 use native.Mathlib.Nat.{mul-comm, div-add-mod', mod-lt, div-lt-iff-lt-mul}
 use native.Mathlib.Numerals.{add-one}
 use native.Mathlib.Omega.{arith}
 use lib.IntN.{ℤ, pos}
 use lib.ListN.{getD}
-use lib.Pow.{pow-pos}
 use lib.Seq.{ext-getD}
-use Rattle.board.specs.Boards.{among, Bytes}
+use Rattle.board.specs.Boards.{Bytes}
 use Rattle.board.specs.Sums.{total}
 use Rattle.board.proofs.Sums.{total-none, total-same, total-add}
 use Rattle.board.proofs.Tests.{among-yes, among-past}
 use Rattle.life.specs.Plane.{onPlane}
-use Rattle.life.specs.Rows.{rowNumber, rowOf, digitIn, cellOf}
-use Rattle.life.proofs.OnPlane.{on-board, state-small}
-use Rattle.life.proofs.Rows.{number-lt, row-cells}
+use Rattle.life.specs.Rows.{rowOf, digitIn, cellOf}
+use Rattle.life.proofs.OnPlane.{on-board}
+use Rattle.life.proofs.Rows.{row-cells}
 use Rattle.solver.specs.Grid.{score}
 use Rattle.score_table.specs.Rows.{cellWorth, rowWorth}
 
@@ -33,14 +31,6 @@ module _ (w h : ℕ) (cells : List ℕ) where
   row-past r l = rw (among-past h r l)
 
 module _ {w h : ℕ} {board : List ℕ} (b : Bytes 1 w h board) where
-  pub row-lt : (r : ℕ) → rowOf w h board r < 2 ^ w
-  unfolding rowOf
-  row-lt r = go (among h r)
-    where
-      go : (t : Bool) → cond t (rowNumber board ((r - 1) * w) w) 0 < 2 ^ w
-      go true = number-lt board (state-small b) ((r - 1) * w) w
-      go false = pow-pos w
-
   -- a digit is the cell
   pub row-digit : (r k : ℕ) → r < h → k < w → digitIn w (rowOf w h board (suc r)) (k + 1) ≡ getD board (r * w + k) 0
   unfolding cellOf

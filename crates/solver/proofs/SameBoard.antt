@@ -1,6 +1,7 @@
--- Both kinds of job come to the same board: there is one wanted board, and each comes to it.
+-- An ordinary job and one of two layers come to the same board: there is one wanted board, and each comes to it.
 -- Assumes nothing.
-use mathlib.Core.Path.{_≡_, sym, _∙_, ap}
+use mathlib.Core.Path.{_≡_, refl, sym, _∙_, ap, subst}
+use mathlib.Core.Bool.{Bool}
 use mathlib.Core.List.{List}
 use mathlib.Core.Logic.{_⊎_, inl, inr, ⊎-elim}
 use Prim.Native.Nat.{ℕ, _≤_, _<_}
@@ -12,8 +13,9 @@ use Rattle.service.specs.Demand.{Call, Aim, Served, Outcome}
 use Rattle.service.specs.Demand as Shared
 use Rattle.service.specs.JobKinds.{Best, aimOf}
 use Rattle.service.specs.Service.{finished}
+use Rattle.job.specs.Jobs.{halvesOf}
 use Rattle.job.specs.declared.Kind.{Kind}
-use Rattle.solver.specs.Grid.{Precedes, Optimal, score}
+use Rattle.solver.specs.Grid.{SolutionBy, Precedes, OptimalBy, score}
 use Rattle.solver.specs.Units.{State, grid}
 use Rattle.solver.specs.Demand.{gridKind, ThirdDemand}
 use Rattle.solver.specs.Inner.{lentState}
@@ -21,7 +23,7 @@ use Rattle.solver.specs.Theorems.{Alike, solved, unsolvable, SameBoard}
 use Rattle.solver.proofs.Third.{third-demand}
 
 -- no two boards come before each other
-never-both : {w h : ℕ} {board other : List ℕ} → Precedes w h board other → Precedes w h other board → ⊥
+never-both : {halves : Bool} {w h : ℕ} {board other : List ℕ} → Precedes halves w h board other → Precedes halves w h other board → ⊥
 never-both P Q =
     ⊎-elim (λ (l : P .row < Q .row). omega (arith, P .smaller, Q .equal (P .row) l))
     (λ (l : Q .row ≤ P .row).
@@ -29,21 +31,23 @@ never-both P Q =
     (λ (m : P .row ≤ Q .row). same P Q (le-antisymm m l)) (lt-or-ge (Q .row) (P .row)))
     (lt-or-ge (P .row) (Q .row))
   where
-    same : {w h : ℕ} {board other : List ℕ} (P : Precedes w h board other) (Q : Precedes w h other board) → P .row ≡ Q .row → ⊥
+    same : {halves : Bool} {w h : ℕ} {board other : List ℕ} (P : Precedes halves w h board other) (Q : Precedes halves w h other board) → P .row ≡ Q .row → ⊥
     same P Q e = let s = rw e at (P .smaller) in omega (arith, s, Q .smaller)
 
 -- there is one wanted board
-pub one-optimal : {rule : Rule} {w h : ℕ} {g board other : List ℕ} → Optimal rule w h g board → Optimal rule w h g other → other ≡ board
-one-optimal {rule} {w} {h} {g} {board} {other} B O =
+pub one-optimal : {halves : Bool} {rule : Rule} {w h : ℕ} {g board other : List ℕ} → OptimalBy halves rule w h g board → OptimalBy halves rule w h g other
+    → other ≡ board
+one-optimal {halves} {rule} {w} {h} {g} {board} {other} B O =
     let e : score w h g other ≡ score w h g board = le-antisymm (B .most other (O .solution)) (O .most board (B .solution)) in
     go (B .earliest other (O .solution) e) (O .earliest board (B .solution) (sym e))
   where
-    go : (other ≡ board) ⊎ Precedes w h board other → (board ≡ other) ⊎ Precedes w h other board → other ≡ board
+    go : (other ≡ board) ⊎ Precedes halves w h board other → (board ≡ other) ⊎ Precedes halves w h other board → other ≡ board
     go (inl p) q = p
     go (inr p) (inl q) = sym q
     go (inr p) (inr q) = absurd (never-both p q)
 
-module _ (kind kind′ : Kind) (rule : Rule) (w h : ℕ) (g : List ℕ) (calls calls′ : List (Call grid)) (s s′ : State) where
+module _ (kind kind′ : Kind) (rule : Rule) (w h : ℕ) (g : List ℕ) (calls calls′ : List (Call grid)) (s s′ : State)
+    (same : halvesOf kind′ ≡ halvesOf kind) where
   abbrev A : Aim (List ℕ)
   A = aimOf (gridKind kind rule w h g)
 
@@ -51,7 +55,7 @@ module _ (kind kind′ : Kind) (rule : Rule) (w h : ℕ) (g : List ℕ) (calls c
   A′ = aimOf (gridKind kind′ rule w h g)
 
   alike : Outcome grid A calls s → Outcome grid A′ calls′ s′ → Alike A A′ calls calls′ s s′
-  alike (Shared.solved best final W S) (Shared.solved best′ final′ W′ S′) = both (one-optimal (W .wanted) (W′ .wanted)) W W′ S′
+  alike (Shared.solved best final W S) (Shared.solved best′ final′ W′ S′) = both (one-optimal (W .wanted) (subst (λ (x : Bool). OptimalBy x rule w h g best′) same (W′ .wanted))) W W′ S′
     where
       both : best′ ≡ best → Best (gridKind kind rule w h g) best final → Best (gridKind kind′ rule w h g) best′ final′ → Served grid A′ (A′ .boardLength) final′ best′ calls′ s′
           → Alike A A′ calls calls′ s s′
@@ -59,12 +63,12 @@ module _ (kind kind′ : Kind) (rule : Rule) (w h : ℕ) (g : List ℕ) (calls c
           let f : final′ ≡ final = W′ .says ∙ ap (λ (b : List ℕ). finished (score w h g b)) e ∙ sym (W .says) in
           let T : Served grid A′ (A′ .boardLength) final best calls′ s′ = rw (e, f) at S′ in
           solved best final W S T (λ l l′. S .board l ∙ sym (T .board l′))
-  alike (Shared.solved best final W S) (Shared.unsolvable none S′) = absurd (none best (W .wanted .solution))
-  alike (Shared.unsolvable none S) (Shared.solved best′ final′ W′ S′) = absurd (none best′ (W′ .wanted .solution))
+  alike (Shared.solved best final W S) (Shared.unsolvable none S′) = absurd (none best (subst (λ (x : Bool). SolutionBy x rule w h g best) (sym same) (W .wanted .solution)))
+  alike (Shared.unsolvable none S) (Shared.solved best′ final′ W′ S′) = absurd (none best′ (subst (λ (x : Bool). SolutionBy x rule w h g best′) same (W′ .wanted .solution)))
   alike (Shared.unsolvable none S) (Shared.unsolvable none′ S′) = unsolvable none S S′
 
 pub same-board : SameBoard
 unfolding ThirdDemand
 same-board rule w h g t β t′ β′ r r′ j j′ O e O′ e′ calls calls′ fair fair′ =
-    alike Kind.Ordinary Kind.TwoLayers rule w h g calls calls′ (lentState j t β) (lentState j′ t′ β′)
+    alike Kind.Ordinary Kind.TwoLayers rule w h g calls calls′ (lentState j t β) (lentState j′ t′ β′) refl
     (third-demand Kind.Ordinary rule w h g t β r j O e calls fair) (third-demand Kind.TwoLayers rule w h g t′ β′ r′ j′ O′ e′ calls′ fair′)

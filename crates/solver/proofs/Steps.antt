@@ -15,10 +15,10 @@ use Rattle.elimination.specs.Task.{Task, fill, row, isFill}
 use Rattle.elimination.specs.Shape.{Numbers, afterEntry, afterEntries, afterRow, afterNone}
 use Rattle.elimination.specs.Job.{Setup}
 use Rattle.rule.specs.Rule.{nextUnder}
-use Rattle.score_table.specs.Rows.{rowWorth}
-use Rattle.score_table.specs.ScoreTable.{kindOf}
+use Rattle.score_table.specs.Rows.{rowWorth, rowFor}
+use Rattle.score_table.specs.ScoreTable.{mostLive, kindOf}
 use Rattle.score_table.proofs.Marks.{row-worth-le}
-use Rattle.job.specs.Jobs.{shapeOf, aboveOf, lastOf, markOf, liveOf, jobFits, taskDue, jobWith, afterUnit, afterFills}
+use Rattle.job.specs.Jobs.{halvesOf, kindDigits, shapeOf, aboveOf, lastOf, markOf, liveOf, jobFits, taskDue, jobWith, afterUnit, afterFills}
 use Rattle.job.specs.declared.Job.{Job}
 use Rattle.job.specs.declared.Chosen.{Chosen}
 use Rattle.job.proofs.Shapes.{shape-rounds}
@@ -57,7 +57,7 @@ module _ (j : Job) (g t β : List ℕ) where
   grids = setupOf (j .kind) (j .rule) w h g
 
   abbrev kinds : Kind ℕ
-  kinds = kindOf (nextUnder (j .rule)) w h g
+  kinds = kindOf (halvesOf (j .kind)) (nextUnder (j .rule)) w h g
 
   unit-fill : (k source target i : ℕ) → markOf (j .stage) ≡ 0 → shapeOf (j .kind) w h .plan (j .units) ≡ fill k source target i
       → unitOf g now ≡ next (lentState (jobWith j (afterEntry (here j))) (fillEntry kinds k source target i t) β)
@@ -84,27 +84,31 @@ module _ (j : Job) (g t β : List ℕ) where
 
 -- a row, with r rows above it
 module _ (j : Job) (r source : ℕ) (g t β : List ℕ) (C : Chooses j r source g t β) where
+  -- the row that a number stands for
+  abbrev rowIs : ℕ → ℕ
+  rowIs c = rowFor (mostLive (halvesOf (j .kind))) (j .width) c
+
   abbrev choice : Choice ℕ
   choice =
-      choose (kindOf (nextUnder (j .rule)) (j .width) (j .height) g) (j .height - suc r) (aboveOf (j .stage)) (lastOf (j .stage))
-      (reads (kindOf (nextUnder (j .rule)) (j .width) (j .height) g) t source (lastOf (j .stage)))
+      choose (kindOf (halvesOf (j .kind)) (nextUnder (j .rule)) (j .width) (j .height) g) (j .height - suc r) (aboveOf (j .stage)) (lastOf (j .stage))
+      (reads (kindOf (halvesOf (j .kind)) (nextUnder (j .rule)) (j .width) (j .height) g) t source (lastOf (j .stage)))
 
   comes : (o : Choice ℕ) → choice ≡ o → rowStep (setupOf (j .kind) (j .rule) (j .width) (j .height) g) r (lentState j t β) o ≡ unitOf g (lentState j t β)
   comes o f =
       sym (unit-choose j g t β r source (C .running) (C .task) ∙ ap (rowStep (setupOf (j .kind) (j .rule) (j .width) (j .height) g) r (lentState j t β)) f)
 
-  pub moves-row : (c n : ℕ) → choice ≡ chosen c n → (j′ : Job) → j′ ≡ afterUnit j (Chosen.Row c (rowWorth (j .width) g (r * j .width) c))
-      → Moves j g t β (Stepped.Next j′) t (putRow (j .width) (j .width) r c β)
+  pub moves-row : (c n : ℕ) → choice ≡ chosen c n → (j′ : Job) → j′ ≡ afterUnit j (Chosen.Row c (rowWorth (j .width) g (r * j .width) (rowIs c)))
+      → Moves j g t β (Stepped.Next j′) t (putRow (kindDigits (j .kind) (j .width)) (j .width) r c β)
   moves-row c n f j′ q =
       let live = liveOf (j .stage) in
-      let l : c < 2 ^ j .width =
-      subst (RowBelow (2 ^ j .width)) f (choose-below (kindOf (nextUnder (j .rule)) (j .width) (j .height) g) (j .height - suc r) (aboveOf (j .stage)) (lastOf (j .stage))
-      (reads (kindOf (nextUnder (j .rule)) (j .width) (j .height) g) t source (lastOf (j .stage)))) in
+      let l : c < 2 ^ kindDigits (j .kind) (j .width) =
+      subst (RowBelow (2 ^ kindDigits (j .kind) (j .width))) f (choose-below (kindOf (halvesOf (j .kind)) (nextUnder (j .rule)) (j .width) (j .height) g) (j .height - suc r) (aboveOf (j .stage)) (lastOf (j .stage))
+      (reads (kindOf (halvesOf (j .kind)) (nextUnder (j .rule)) (j .width) (j .height) g) t source (lastOf (j .stage)))) in
       let d : j .height - suc (j .height - suc r) ≡ r = omega (arith, row-in C .inside) in
-      let same : j′ ≡ jobWith j (afterRow (j .height) r c (rowWorth (j .width) g ((j .height - suc (j .height - suc r)) * j .width) c + live) (here j)) =
-      q ∙ after-row j (C .lent .taken) (C .running) (C .task) c (rowWorth (j .width) g (r * j .width) c) l (row-worth-le (j .width) g (r * j .width) c)
-      ∙ ap (λ (k : ℕ). jobWith j (afterRow (j .height) r c (rowWorth (j .width) g (k * j .width) c + live) (here j))) (sym d) in
-      moved-on (ap (λ (i : Job). next (lentState i t (putRow (j .width) (j .width) r c β))) same ∙ comes (chosen c n) f)
+      let same : j′ ≡ jobWith j (afterRow (j .height) r c (rowWorth (j .width) g ((j .height - suc (j .height - suc r)) * j .width) (rowIs c) + live) (here j)) =
+      q ∙ after-row j (C .lent .taken) (C .running) (C .task) c (rowWorth (j .width) g (r * j .width) (rowIs c)) l (row-worth-le (j .width) g (r * j .width) (rowIs c))
+      ∙ ap (λ (k : ℕ). jobWith j (afterRow (j .height) r c (rowWorth (j .width) g (k * j .width) (rowIs c) + live) (here j))) (sym d) in
+      moved-on (ap (λ (i : Job). next (lentState i t (putRow (kindDigits (j .kind) (j .width)) (j .width) r c β))) same ∙ comes (chosen c n) f)
 
   pub moves-none : r ≡ 0 → choice ≡ nothing → (j′ : Job) → j′ ≡ afterUnit j Chosen.Nothing → Moves j g t β (Stepped.Next j′) t β
   moves-none z f j′ q =
@@ -134,7 +138,7 @@ pub record Onward (g : List ℕ) (j : Job) (t β : List ℕ) (n : ℕ) (j′ : J
 module _ (j : Job) (g t β : List ℕ) (L : Lent j g t β) (m : markOf (j .stage) ≡ 0) (k source target i : ℕ)
     (p : shapeOf (j .kind) (j .width) (j .height) .plan (j .units) ≡ fill k source target i) where
   abbrev K : Kind ℕ
-  K = kindOf (nextUnder (j .rule)) (j .width) (j .height) g
+  K = kindOf (halvesOf (j .kind)) (nextUnder (j .rule)) (j .width) (j .height) g
 
   -- the state after c of them
   abbrev ran : ℕ → State
@@ -143,19 +147,19 @@ module _ (j : Job) (g t β : List ℕ) (L : Lent j g t β) (m : markOf (j .stage
   ran-none : ran 0 ≡ lentState j t β
   ran-none = ap₂ (λ (x : Job) (y : List ℕ). lentState x y β) (entries-none j (L .taken) m) (fill-none K k source target i t)
 
-  fills : (c : ℕ) → i + c < 4 ^ j .width → shapeOf (j .kind) (j .width) (j .height) .plan (j .units + c) ≡ fill k source target (i + c)
-  fills c l = fill-run (shape-rounds (j .width) (j .height) (j .kind)) (four-pos (j .width)) (fits-until j (L .taken) m) p c l .0
+  fills : (c : ℕ) → i + c < 4 ^ kindDigits (j .kind) (j .width) → shapeOf (j .kind) (j .width) (j .height) .plan (j .units + c) ≡ fill k source target (i + c)
+  fills c l = fill-run (shape-rounds (j .width) (j .height) (j .kind)) (four-pos (kindDigits (j .kind) (j .width))) (fits-until j (L .taken) m) p c l .0
 
-  ran-more : (c : ℕ) → i + c < 4 ^ j .width → unitOf g (ran c) ≡ next (ran (suc c))
+  ran-more : (c : ℕ) → i + c < 4 ^ kindDigits (j .kind) (j .width) → unitOf g (ran c) ≡ next (ran (suc c))
   ran-more c l =
       unit-fill (ran c .job) g (ran c .table) β k source target (i + c) (ap (λ (x : Numbers). x .mark) (entries-here j c)) (fills c l)
       ∙ ap₂ (λ (x : Job) (y : List ℕ). next (lentState x y β)) (entries-more j c) (sym (fill-more K k source target i t c))
 
-  lent-ran : (c : ℕ) → i + c ≤ 4 ^ j .width → Lent (ran c .job) g (ran c .table) β
+  lent-ran : (c : ℕ) → i + c ≤ 4 ^ kindDigits (j .kind) (j .width) → Lent (ran c .job) g (ran c .table) β
   lent-ran zero l = subst (λ (s : State). Lent (s .job) g (s .table) (s .board)) (sym ran-none) L
   lent-ran (suc c) l = unit-lent g (ran c) (ran (suc c)) (lent-ran c (omega arith)) (ran-more c (omega arith))
 
-  works-ran : (c : ℕ) → i + c ≤ 4 ^ j .width → (n : ℕ) → c ≤ n → worksOn grid g (n - c) (ran c) ≡ worksOn grid g n (lentState j t β)
+  works-ran : (c : ℕ) → i + c ≤ 4 ^ kindDigits (j .kind) (j .width) → (n : ℕ) → c ≤ n → worksOn grid g (n - c) (ran c) ≡ worksOn grid g n (lentState j t β)
   works-ran zero l n b = ap₂ (λ (x : ℕ) (s : State). worksOn grid g x s) (let e : n - 0 ≡ n = omega arith in e) ran-none
   works-ran (suc c) l n b =
       let e : suc (n - suc c) ≡ n - c = omega arith in
@@ -163,7 +167,7 @@ module _ (j : Job) (g t β : List ℕ) (L : Lent j g t β) (m : markOf (j .stage
       ∙ ap (λ (x : ℕ). worksOn grid g x (ran c)) e
       ∙ works-ran c (omega arith) n (omega arith)
 
-  pub onward-filled : (c : ℕ) → i + c ≤ 4 ^ j .width → (j′ : Job) → j′ ≡ afterFills c j → (t′ : List ℕ) → t′ ≡ fillEntries K k source target i c t → (n : ℕ) → c ≤ n
+  pub onward-filled : (c : ℕ) → i + c ≤ 4 ^ kindDigits (j .kind) (j .width) → (j′ : Job) → j′ ≡ afterFills c j → (t′ : List ℕ) → t′ ≡ fillEntries K k source target i c t → (n : ℕ) → c ≤ n
       → Onward g j t β n j′ t′ β (n - c)
   onward-filled c l j′ q t′ e n b =
       let d : j′ ≡ jobWith j (afterEntries c (here j)) = q ∙ after-run j (L .taken) m c (λ x y. ap isFill (fills x (omega arith))) in

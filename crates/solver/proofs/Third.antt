@@ -6,7 +6,7 @@ use Prim.Native.Nat.{ℕ}
 use native.Mathlib.Nat.{mul-comm}
 use lib.Pow.{pow-pos}
 use Rattle.rule.specs.declared.Rule.{Rule}
-use Rattle.job.specs.Jobs.{courseOf, start, jobResultSays}
+use Rattle.job.specs.Jobs.{halvesOf, kindDigits, courseOf, start, jobResultSays}
 use Rattle.job.specs.declared.Kind.{Kind}
 use Rattle.job.specs.declared.Job.{Job}
 use Rattle.job.proofs.Shapes.{shape-rounds, shape-orderly, shorter}
@@ -27,12 +27,12 @@ use Rattle.solver.proofs.CheckLaws.{checks-sound, lent-passed}
 use Rattle.solver.proofs.Machine.{numbered, unit-same}
 use Rattle.solver.proofs.Progress.{progress}
 
-module _ (kind : Kind) {rule : Rule} {w h : ℕ} (z : Frame rule w h) (g : List ℕ) where
+module _ (kind : Kind) {rule : Rule} {w h : ℕ} (z : Frame kind rule w h) (g : List ℕ) where
   pub kind-shows : KindLaws (List ℕ) lentCheck unitOf g (gridKind kind rule w h g)
   kind-shows = record {
-    laws = kind-laws rule w h g (z .size);
+    laws = kind-laws (halvesOf kind) rule w h g (z .size);
     high = z .size .some-row;
-    wide = pow-pos w;
+    wide = pow-pos (kindDigits kind w);
     orderly = shape-orderly w h kind;
     course = courseOf kind w h;
     scheduled = shape-rounds w h kind .scheduled;
@@ -45,11 +45,11 @@ module _ (kind : Kind) {rule : Rule} {w h : ℕ} (z : Frame rule w h) (g : List 
     room = λ j t β O p. let L = lent-passed j g t β p in (rw (O .wide, O .tall) at (L .0), rw (O .kept, O .wide, O .tall) at (L .1));
     zero-start = refl;
     all-rows = mul-comm h w;
-    writer = rows-stand w;
-    boardOf = boardOf w h;
-    into = grid-into z g;
-    best = λ x rows T. (optimal z g T, is-total z g T);
-    none = λ n b S. n (allRows w h b) (grid-boards z g .ends b S);
+    writer = rows-stand (halvesOf kind) w;
+    boardOf = boardOf (halvesOf kind) w h;
+    into = grid-into (z .allowed) (z .size) g;
+    best = λ x rows T. (optimal (z .allowed) (z .size) g T, is-total (z .allowed) (z .size) g T);
+    none = λ n b S. n (allRows (halvesOf kind) w h b) (grid-boards (z .allowed) (z .size) g .ends b S);
     progress = λ wanted before now O f o F E C. progress kind z g wanted before now O f o F E C;
   }
 
@@ -57,7 +57,7 @@ module _ (kind : Kind) {rule : Rule} {w h : ℕ} (z : Frame rule w h) (g : List 
 pub third-demand : ThirdDemand
 unfolding ThirdDemand
 third-demand kind rule w h g t β r j O e =
-    let z = opening-shows rule w h g kind (sym (O .says) ∙ ap jobResultSays e) .0 in
+    let z = opening-shows kind rule w h g (sym (O .says) ∙ ap jobResultSays e) .0 in
     subst (λ (x : Job). Demand grid (aimOf (gridKind kind rule w h g)) g (record { job = x; table = t; board = β })) (sym (O .job j e))
     (kind-meets-demand (List ℕ) lentCheck unitOf g (gridKind kind rule w h g) (kind-shows kind z g) (record { job = start kind rule w h; table = t; board = β }) (record {
       of = record { kept = refl; ruled = refl; wide = refl; tall = refl };

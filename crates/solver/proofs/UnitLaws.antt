@@ -10,7 +10,7 @@ use lib.ListN.{length, length-set}
 use Rattle.board.specs.Boards.{maxWidth}
 use Rattle.elimination.specs.Candidates.{Choice, nothing, chosen}
 use Rattle.rule.specs.declared.Rule.{Rule}
-use Rattle.job.specs.Jobs.{planOf, shapeOf, aboveOf, lastOf, markOf, jobFits}
+use Rattle.job.specs.Jobs.{halvesOf, kindDigits, planOf, shapeOf, aboveOf, lastOf, markOf, jobFits}
 use Rattle.rule.specs.Rule.{nextUnder}
 use Rattle.elimination.specs.Kind.{choose}
 use Rattle.elimination.specs.Table.{reads, fillEntry}
@@ -23,7 +23,6 @@ use Rattle.service.specs.Service.{next, spoiled}
 use Rattle.solver.specs.Units.{State, Step, setupOf, unitOf}
 use Rattle.solver.specs.Inner.{Lent, Chooses}
 use Rattle.score_table.specs.Inner.{Memory, EntriesRead}
-use Rattle.score_table.proofs.WholeRows.{width-digits}
 use Rattle.job.specs.declared.Kind.{Kind}
 use Rattle.job.specs.declared.Job.{Job}
 use Rattle.job.proofs.Shapes.{shape-rounds}
@@ -57,7 +56,7 @@ StepLengths t β spoiled = Unit {0}
 
 module _ (kind : Kind) (rule : Rule) (w h : ℕ) (g : List ℕ) (s : State) where
   row-lengths : (r : ℕ) (o : Choice ℕ) → StepLengths (s .table) (s .board) (rowStep (setupOf kind rule w h g) r s o)
-  row-lengths r (chosen c n) = record { table = refl; board = rows-stand w .only r c (s .board) .size }
+  row-lengths r (chosen c n) = record { table = refl; board = rows-stand (halvesOf kind) w .only r c (s .board) .size }
   row-lengths zero nothing = record { table = refl; board = refl }
   row-lengths (suc r) nothing = tt
 
@@ -66,8 +65,8 @@ module _ (kind : Kind) (rule : Rule) (w h : ℕ) (g : List ℕ) (s : State) wher
   task-lengths (fill k source target j) = record { table = length-set (s .table) (target + j) _; board = refl }
   task-lengths (row r source) =
       row-lengths r
-      (choose (kindOf (nextUnder rule) w h g) (h - suc r) (aboveOf (s .job .stage)) (lastOf (s .job .stage))
-      (reads (kindOf (nextUnder rule) w h g) (s .table) source (lastOf (s .job .stage))))
+      (choose (kindOf (halvesOf kind) (nextUnder rule) w h g) (h - suc r) (aboveOf (s .job .stage)) (lastOf (s .job .stage))
+      (reads (kindOf (halvesOf kind) (nextUnder rule) w h g) (s .table) source (lastOf (s .job .stage))))
 
   mark-lengths : (m : ℕ) (o : Task) → StepLengths (s .table) (s .board) (markStep (setupOf kind rule w h g) m o s)
   mark-lengths zero o = task-lengths o
@@ -91,20 +90,20 @@ unit-lent g s s′ L e =
     }
 
 -- ---- what they have shown, by the job's task
-pub lent-memory : {j : Job} {g t β : List ℕ} → Lent j g t β → Memory (mostLive .halves) (j .width) (j .height) g
+pub lent-memory : {j : Job} {g t β : List ℕ} → Lent j g t β → Memory (halvesOf (j .kind)) (j .width) (j .height) g
 lent-memory {j} L =
-    let z = fits-frame j (L .taken) .size in record { width = width-digits (z .narrow); low = z .low; marks = L .marks }
+    let z = fits-frame j (L .taken) .size in record { width = z .width; low = z .low; marks = L .marks }
 
 -- where an entry is to be filled: it is one of its layer's, and the layers lie within the table
 module _ {j : Job} {g t β : List ℕ} {k source target i : ℕ} (L : Lent j g t β) (m : markOf (j .stage) ≡ 0)
     (p : shapeOf (j .kind) (j .width) (j .height) .plan (j .units) ≡ fill k source target i) where
   at : FillAt (shape-rounds (j .width) (j .height) (j .kind)) k source target i
-  at = fill-at (shape-rounds (j .width) (j .height) (j .kind)) (four-pos (j .width)) (fits-until j (L .taken) m) p
+  at = fill-at (shape-rounds (j .width) (j .height) (j .kind)) (four-pos (kindDigits (j .kind) (j .width))) (fits-until j (L .taken) m) p
 
-  pub lent-entry : (j .width ≤ maxWidth) × (i < 4 ^ j .width)
-  lent-entry = (fits-frame j (L .taken) .size .narrow, at .inside)
+  pub lent-entry : (kindDigits (j .kind) (j .width) ≤ maxWidth) × (i < 4 ^ kindDigits (j .kind) (j .width))
+  lent-entry = (fits-frame j (L .taken) .size .width .narrow, at .inside)
 
-  pub lent-read : (n : ℕ) → i + n ≤ 4 ^ j .width → EntriesRead mostLive (j .width) (j .height) k source i n g t × (target + 4 ^ j .width ≤ length t)
+  pub lent-read : (n : ℕ) → i + n ≤ 4 ^ kindDigits (j .kind) (j .width) → EntriesRead (mostLive (halvesOf (j .kind))) (j .width) (j .height) k source i n g t × (target + 4 ^ kindDigits (j .kind) (j .width) ≤ length t)
   lent-read n l = (
     record { memory = lent-memory L; after = at .after; inside = l; layer = λ z. omega (arith, at .reads z, L .entries) },
     omega (arith, at .writes, L .entries),
@@ -113,7 +112,7 @@ module _ {j : Job} {g t β : List ℕ} {k source target i : ℕ} (L : Lent j g t
 -- where a row is to be chosen: it is one of the board's, and its layer lies within the table
 pub record RowIn (j : Job) (r source : ℕ) (t : List ℕ) : Type 0 where
   pub inside : r < j .height
-  pub layer : source + 4 ^ j .width ≤ length t
+  pub layer : source + 4 ^ kindDigits (j .kind) (j .width) ≤ length t
 
 pub row-in : {j : Job} {r source : ℕ} {g t β : List ℕ} → Chooses j r source g t β → RowIn j r source t
 row-in {j} {r} {source} C =

@@ -2,22 +2,22 @@
 -- crate `service`.
 -- Assumes nothing.
 use mathlib.Core.Path.{_≡_}
-use mathlib.Core.Bool.{false, cond}
+use mathlib.Core.Bool.{Bool, true, false, cond}
 use mathlib.Core.List.{List}
 use Prim.Native.Nat.{ℕ, _+_, _-_, _*_, _/_, _%_, _^_, _≤_, _<_}
 use lib.Dec.{eqb}
 use lib.ListN.{length, getD}
+use Rattle.board.specs.Boards.{rowDigits}
 use Rattle.elimination.specs.Kind.{rightEntry}
 use Rattle.elimination.specs.Shape.{rowsChosen, entriesFilled}
 use Rattle.elimination.specs.Places.{writes, Stands}
 use Rattle.elimination.specs.Progress.{Written}
 use Rattle.rule.specs.Rule.{nextUnder}
 use Rattle.rule.specs.declared.Rule.{Rule}
-use Rattle.solver.specs.Grid.{Solution, Optimal, score}
-use Rattle.score_table.specs.ScoreTable.{kindOf, rowsAfter, rowA, rowB, unitPlace, halfPlace}
+use Rattle.solver.specs.Grid.{SolutionBy, OptimalBy, heldRow, score}
+use Rattle.score_table.specs.ScoreTable.{kindOf, rowsAfter, rowA, rowB, unitPlace, twoLayerPlace}
 use Rattle.board_rows.specs.Rows.{readRow}
-use Rattle.life.specs.Rows.{rowOf}
-use Rattle.job.specs.Jobs.{planOf, shapeOf, aboveOf, lastOf, liveOf, markOf}
+use Rattle.job.specs.Jobs.{halvesOf, kindDigits, planOf, shapeOf, aboveOf, lastOf, liveOf, markOf}
 use Rattle.job.specs.Calls.{Opens}
 use Rattle.job.specs.declared.Kind.{Kind}
 use Rattle.job.specs.declared.Job.{Job}
@@ -34,31 +34,33 @@ pub record Of (kind : Kind) (rule : Rule) (w h : ℕ) (j : Job) : Type 0 where
   pub tall : j .height ≡ h
 
 -- ---- what is done
--- Ordinary jobs. The right number for unit u of filling: entry (h - rowsAfter, rowA, rowB) by the rule over right entries. `EntriesRight` of `Theorems` says what
--- a right entry means
-unfoldable pub rightUnit : Rule → ℕ → ℕ → List ℕ → ℕ → ℕ
-rightUnit rule w h givens u = rightEntry (kindOf (nextUnder rule) w h givens) (rowsAfter w u) (rowA w u) (rowB w u)
+-- Where the whole table is filled. The right number for unit u of filling: entry (h - rowsAfter, rowA, rowB) by the rule over right entries.
+-- `EntriesRight` of `Theorems` says what a right entry means
+unfoldable pub rightUnit : Bool → Rule → ℕ → ℕ → List ℕ → ℕ → ℕ
+rightUnit halves rule w h givens u =
+    rightEntry (kindOf halves (nextUnder rule) w h givens) (rowsAfter (rowDigits halves w) u) (rowA (rowDigits halves w) u) (rowB (rowDigits halves w) u)
 
 -- the first n entries in filling order are right, and every other place of the table holds what it held
-pub record FilledTo (rule : Rule) (w h : ℕ) (givens : List ℕ) (n : ℕ) (before now : List ℕ) : Type 0 where
+pub record FilledTo (halves : Bool) (rule : Rule) (w h : ℕ) (givens : List ℕ) (n : ℕ) (before now : List ℕ) : Type 0 where
   pub size : length now ≡ length before
-  pub right : (u : ℕ) → u < n → getD now (unitPlace w h u) 0 ≡ rightUnit rule w h givens u
-  pub rest : (p : ℕ) → ((u : ℕ) → u < n → p ≡ unitPlace w h u → ⊥) → getD now p 0 ≡ getD before p 0
+  pub right : (u : ℕ) → u < n → getD now (unitPlace (rowDigits halves w) h u) 0 ≡ rightUnit halves rule w h givens u
+  pub rest : (p : ℕ) → ((u : ℕ) → u < n → p ≡ unitPlace (rowDigits halves w) h u → ⊥) → getD now p 0 ≡ getD before p 0
 
 -- Two layers: an entry that one of the first u units filled, and over which none of them wrote since, stands in its layer's half, where the half of layer i
 -- is the one numbered i modulo 2, and is right; every place that none of them wrote holds what it held, among them all past the two halves.
-pub record HalvesTo (rule : Rule) (w h : ℕ) (givens : List ℕ) (u : ℕ) (before now : List ℕ) : Type 0 where
+pub record TwoLayersTo (rule : Rule) (w h : ℕ) (givens : List ℕ) (u : ℕ) (before now : List ℕ) : Type 0 where
   pub size : length now ≡ length before
-  pub stands : (p k j : ℕ) → Stands (planOf Kind.TwoLayers w h) u p k j → p ≡ halfPlace w (h - k) (j / 2 ^ w) (j % 2 ^ w)
+  pub stands : (p k j : ℕ) → Stands (planOf Kind.TwoLayers w h) u p k j → p ≡ twoLayerPlace w (h - k) (j / 2 ^ w) (j % 2 ^ w)
   pub right : (p k j : ℕ) → Stands (planOf Kind.TwoLayers w h) u p k j
-      → getD now p 0 ≡ rightEntry (kindOf (nextUnder rule) w h givens) k (j / 2 ^ w) (j % 2 ^ w)
+      → getD now p 0 ≡ rightEntry (kindOf false (nextUnder rule) w h givens) k (j / 2 ^ w) (j % 2 ^ w)
   pub rest : (p : ℕ) → ((v : ℕ) → v < u → writes (planOf Kind.TwoLayers w h v) p ≡ false) → getD now p 0 ≡ getD before p 0
   pub past : (p : ℕ) → 2 * 4 ^ w ≤ p → getD now p 0 ≡ getD before p 0
 
 -- what the table holds after u units
 abbrev pub TableAfter : Kind → Rule → ℕ → ℕ → List ℕ → ℕ → List ℕ → List ℕ → Type 0
-TableAfter Kind.Ordinary rule w h givens u before now = FilledTo rule w h givens (entriesFilled (planOf Kind.Ordinary w h) u) before now
-TableAfter Kind.TwoLayers rule w h givens u before now = HalvesTo rule w h givens u before now
+TableAfter Kind.Ordinary rule w h givens u before now = FilledTo false rule w h givens (entriesFilled (planOf Kind.Ordinary w h) u) before now
+TableAfter Kind.TwoLayers rule w h givens u before now = TwoLayersTo rule w h givens u before now
+TableAfter Kind.Mirror rule w h givens u before now = FilledTo true rule w h givens (entriesFilled (planOf Kind.Mirror w h) u) before now
 
 -- the entries written, each counted as often as it is written; the rows chosen; and the one unit of a job that ended with none, which writes and chooses nothing
 abbrev pub entriesWritten : Kind → ℕ → ℕ → Job → ℕ
@@ -76,25 +78,25 @@ pub record Progress (kind : Kind) (rule : Rule) (w h : ℕ) (givens wanted : Lis
   pub units : now .job .units ≡ entriesWritten kind w h (now .job) + chosenRows kind w h (now .job) + idleUnits (now .job)
   pub filled : TableAfter kind rule w h givens (now .job .units) (before .table) (now .table)
   pub written : Written w (chosenRows kind w h (now .job)) wanted (before .board) (now .board)
-  -- with k rows chosen, row above is row k - 1 of the wanted board and last row is row k, each 0 until such a row is chosen; the live cells so far are
-  -- the score of its first k rows
-  pub above : aboveOf (now .job .stage) ≡ rowOf w h wanted (chosenRows kind w h (now .job) - 1)
-  pub last : lastOf (now .job .stage) ≡ rowOf w h wanted (chosenRows kind w h (now .job))
+  -- with k rows chosen, row above is row k - 1 of the wanted board and last row is row k, each as the kind holds it, and 0 until such a row is chosen; the
+  -- live cells so far are the score of its first k rows
+  pub above : aboveOf (now .job .stage) ≡ heldRow (halvesOf kind) w h wanted (chosenRows kind w h (now .job) - 1)
+  pub last : lastOf (now .job .stage) ≡ heldRow (halvesOf kind) w h wanted (chosenRows kind w h (now .job))
   pub live : liveOf (now .job .stage) ≡ score w (chosenRows kind w h (now .job)) givens wanted
 
 -- ---- the claim
--- What the jobs of one kind, rule and grid come to: the best board, first in board order among the best, and its score, the live cells that were free
--- (`SameBest` of `Theorems`: it is the best by all live cells too).
+-- What the jobs of one kind, rule and grid come to: the best board, of a mirror job the best mirror board, first in board order among the best, and its
+-- score, the live cells that were free (`SameBest` of `Theorems`: it is the best by all live cells too).
 abbrev pub gridKind : Kind → Rule → ℕ → ℕ → List ℕ → JobKind
 gridKind kind rule w h givens = record {
   setup = setupOf kind rule w h givens;
   shape = shapeOf kind w h;
   width = w;
   cells = w * h;
-  read = readRow w w;
+  read = readRow (kindDigits kind w) w;
   Of = Of kind rule w h;
-  Solution = Solution rule w h givens;
-  Wanted = Optimal rule w h givens;
+  Solution = SolutionBy (halvesOf kind) rule w h givens;
+  Wanted = OptimalBy (halvesOf kind) rule w h givens;
   score = score w h givens;
   Progress = Progress kind rule w h givens;
 }

@@ -7,7 +7,7 @@ use Prim.Native.Nat.{ℕ, _*_, _≤_}
 use lib.ListN.{length}
 use Rattle.board.specs.Checks.{tableSize}
 use Rattle.elimination.specs.Task.{row}
-use Rattle.job.specs.Jobs.{layersOf, shapeOf, markOf, jobFits}
+use Rattle.job.specs.Jobs.{kindDigits, layersOf, shapeOf, markOf, jobFits}
 use Rattle.service.specs.Service.{next, spoiled}
 use Rattle.solver.specs.Units.{State, Step, unitOf}
 use Rattle.solver.specs.declared.choosing.Stepped.{Stepped}
@@ -21,7 +21,7 @@ pub record Lent (j : Job) (givens table board : List ℕ) : Type 0 where
   pub taken : jobFits j ≡ true
   pub marks : length givens ≡ j .width * j .height
   pub cells : length board ≡ j .width * j .height
-  pub entries : tableSize (j .width) (layersOf (j .kind) (j .height)) ≤ length table
+  pub entries : tableSize (kindDigits (j .kind) (j .width)) (layersOf (j .kind) (j .height)) ≤ length table
 
 -- and where row r is to be chosen, by the layer that starts at `source`
 pub record Chooses (j : Job) (r source : ℕ) (givens table board : List ℕ) : Type 0 where

@@ -1,17 +1,18 @@
 -- What is proved of the rules over the rows of a grid: an ending is a solution, the rows that are chosen are the wanted board, an entry is what
 -- document 01, "The score table", says it is, the wanted board is the best by all live cells too, a grid turned away for an edge three has no still
--- board that keeps the givens, a unit changes no byte of the board but those of the row that it chooses, and both kinds of job come to the same
--- board. The third demand is stated in `Demand`, and the round trip in `Calls` of `job`.
+-- board that keeps the givens, a unit changes no byte of the board but those of the row that it chooses, and an ordinary job and one of two layers come
+-- to the same board. The third demand is stated in `Demand`, and the round trip in `Calls` of `job`. Endings, choices, entries and live cells go by how
+-- rows are held, `halves`: as their left halves, among mirror boards, or whole.
 -- Assumes nothing.
 use mathlib.Core.Path.{_≡_}
-use mathlib.Core.Bool.{cond}
+use mathlib.Core.Bool.{Bool, true, false, cond}
 use mathlib.Core.Logic.{_↔_}
 use mathlib.Core.List.{List, [], _∷_}
 use Prim.Native.Nat.{ℕ, suc, _+_, _*_, _-_, _^_, _≤_, _<_}
 use lib.Dec.{eqb}
 use lib.ListN.{length, getD}
 use Rattle.board.specs.Answers.{Answer, passed, refuses}
-use Rattle.board.specs.Boards.{Sized, Board}
+use Rattle.board.specs.Boards.{rowDigits, SizedBy}
 use Rattle.board.specs.Sums.{total}
 use Rattle.edges.specs.Edges.{edgeCheck}
 use Rattle.elimination.specs.Kind.{entry, rightEntry, rightRows}
@@ -19,9 +20,8 @@ use Rattle.elimination.specs.Endings.{Ending}
 use Rattle.elimination.specs.Boards.{rowsFrom}
 use Rattle.rule.specs.Rule.{Allowed, nextUnder}
 use Rattle.rule.specs.declared.Rule.{Rule}
-use Rattle.life.specs.Rows.{rowOf}
-use Rattle.solver.specs.Grid.{KeepsGivens, Solution, BestBy, Optimal, score, population}
-use Rattle.score_table.specs.Rows.{rowWorth}
+use Rattle.solver.specs.Grid.{KeepsGivens, Solution, SolutionBy, BoardBy, heldRow, Precedes, BestBy, OptimalBy, score, population}
+use Rattle.score_table.specs.Rows.{rowWorth, rowFor}
 use Rattle.score_table.specs.ScoreTable.{absent, mostLive, kindOf, readsOf}
 use Rattle.job.specs.Jobs.{openRule}
 use Rattle.job.specs.Calls.{Opens}
@@ -37,54 +37,66 @@ use Rattle.solver.specs.Demand.{gridKind}
 use Rattle.solver.specs.Inner.{lentState}
 
 -- ---- boards and endings
--- rows 1 to h of a board, as numbers
-abbrev pub allRows : ℕ → ℕ → List ℕ → List ℕ
-allRows w h board = rowsFrom (rowOf w h board) 0 h
+-- rows 1 to h of a board, as the numbers that they are held as
+abbrev pub allRows : Bool → ℕ → ℕ → List ℕ → List ℕ
+allRows halves w h board = rowsFrom (heldRow halves w h board) 0 h
 
 -- the k rows cs may stand below a over b and end the board there: every three neighbouring rows agree, and each keeps its givens
-abbrev pub GridEnding : Rule → ℕ → ℕ → List ℕ → ℕ → ℕ → ℕ → List ℕ → Type 0
-GridEnding rule w h givens k a b cs = Ending (kindOf (nextUnder rule) w h givens) k a b cs
+abbrev pub GridEnding : Bool → Rule → ℕ → ℕ → List ℕ → ℕ → ℕ → ℕ → List ℕ → Type 0
+GridEnding halves rule w h givens k a b cs = Ending (kindOf halves (nextUnder rule) w h givens) k a b cs
 
 -- below two dead rows, a board's rows are an ending exactly when the board is a solution
 abbrev pub EndingsAreSolutions : Type 0
 EndingsAreSolutions =
-    (rule : Rule) → Allowed rule → (w h : ℕ) (givens board : List ℕ) → Board w h board → GridEnding rule w h givens h 0 0 (allRows w h board) ↔ Solution rule w h givens board
+    (halves : Bool) (rule : Rule) → Allowed rule → (w h : ℕ) (givens board : List ℕ) → BoardBy halves w h board
+    → GridEnding halves rule w h givens h 0 0 (allRows halves w h board) ↔ SolutionBy halves rule w h givens board
 
 -- ---- the rows that are chosen
 -- by right entries either the wanted board is chosen, and the right entry is its score; or there is no solution, and the right entry says so
-pub data BestOrNone (rule : Rule) (w h : ℕ) (givens : List ℕ) : Type 0 where
-  best : (board : List ℕ) → Optimal rule w h givens board → allRows w h board ≡ rightRows (kindOf (nextUnder rule) w h givens) h 0 0
-      → score w h givens board ≡ rightEntry (kindOf (nextUnder rule) w h givens) h 0 0 → BestOrNone rule w h givens
-  none : ((board : List ℕ) → Solution rule w h givens board → ⊥) → rightEntry (kindOf (nextUnder rule) w h givens) h 0 0 ≡ absent → BestOrNone rule w h givens
+pub data BestOrNone (halves : Bool) (rule : Rule) (w h : ℕ) (givens : List ℕ) : Type 0 where
+  best : (board : List ℕ) → OptimalBy halves rule w h givens board → allRows halves w h board ≡ rightRows (kindOf halves (nextUnder rule) w h givens) h 0 0
+      → score w h givens board ≡ rightEntry (kindOf halves (nextUnder rule) w h givens) h 0 0 → BestOrNone halves rule w h givens
+  none : ((board : List ℕ) → SolutionBy halves rule w h givens board → ⊥) → rightEntry (kindOf halves (nextUnder rule) w h givens) h 0 0 ≡ absent
+      → BestOrNone halves rule w h givens
 
 abbrev pub ChoiceIsOptimal : Type 0
-ChoiceIsOptimal = (rule : Rule) → Allowed rule → (w h : ℕ) (givens : List ℕ) → Sized w h → BestOrNone rule w h givens
+ChoiceIsOptimal = (halves : Bool) (rule : Rule) → Allowed rule → (w h : ℕ) (givens : List ℕ) → SizedBy halves w h → BestOrNone halves rule w h givens
+
+-- Req 06: ties go by the left halves' numbers, which is the order by the whole rows among mirror boards
+abbrev pub MirrorOrder : Type 0
+MirrorOrder =
+    (w h : ℕ) (board other : List ℕ) → BoardBy true w h board → BoardBy true w h other → Precedes true w h board other ↔ Precedes false w h board other
 
 -- ---- entries
 -- what the last rows of a grid of h rows are worth
-unfoldable pub rowsWorth : ℕ → ℕ → List ℕ → List ℕ → ℕ
-rowsWorth w h givens [] = 0
-rowsWorth w h givens (c ∷ cs) = rowWorth w givens ((h - suc (length cs)) * w) c + rowsWorth w h givens cs
+unfoldable pub rowsWorth : Bool → ℕ → ℕ → List ℕ → List ℕ → ℕ
+rowsWorth halves w h givens [] = 0
+rowsWorth halves w h givens (c ∷ cs) = rowWorth w givens ((h - suc (length cs)) * w) (rowFor (mostLive halves) w c) + rowsWorth halves w h givens cs
 
 -- x is the greatest worth of k rows that end the board below a over b, which counts, or the number for none where there are none such
-pub data Greatest (rule : Rule) (w h : ℕ) (givens : List ℕ) (k a b x : ℕ) : Type 0 where
-  greatest : (cs : List ℕ) → GridEnding rule w h givens k a b cs → rowsWorth w h givens cs ≡ x → x ≤ mostLive .limit
-      → ((ds : List ℕ) → GridEnding rule w h givens k a b ds → rowsWorth w h givens ds ≤ x) → Greatest rule w h givens k a b x
-  noEnding : ((ds : List ℕ) → GridEnding rule w h givens k a b ds → ⊥) → x ≡ absent → Greatest rule w h givens k a b x
+pub data Greatest (halves : Bool) (rule : Rule) (w h : ℕ) (givens : List ℕ) (k a b x : ℕ) : Type 0 where
+  greatest : (cs : List ℕ) → GridEnding halves rule w h givens k a b cs → rowsWorth halves w h givens cs ≡ x → x ≤ mostLive halves .limit
+      → ((ds : List ℕ) → GridEnding halves rule w h givens k a b ds → rowsWorth halves w h givens ds ≤ x) → Greatest halves rule w h givens k a b x
+  noEnding : ((ds : List ℕ) → GridEnding halves rule w h givens k a b ds → ⊥) → x ≡ absent → Greatest halves rule w h givens k a b x
 
 -- layer i of a table is right: each of its entries (i, b, c) is the right one
-abbrev pub RightGridLayer : Rule → ℕ → ℕ → List ℕ → List ℕ → ℕ → Type 0
-RightGridLayer rule w h givens table i = (b c : ℕ) → b < 2 ^ w → c < 2 ^ w → readsOf w table i b c ≡ rightEntry (kindOf (nextUnder rule) w h givens) (h - i) b c
+abbrev pub RightGridLayer : Bool → Rule → ℕ → ℕ → List ℕ → List ℕ → ℕ → Type 0
+RightGridLayer halves rule w h givens table i =
+    (b c : ℕ) → b < 2 ^ rowDigits halves w → c < 2 ^ rowDigits halves w
+    → readsOf (rowDigits halves w) table i b c ≡ rightEntry (kindOf halves (nextUnder rule) w h givens) (h - i) b c
 
 -- over a table whose layer i + 1 is right, the rule of entry (i, a, b) gives the right entry; layer h reads no layer. And a right entry is the
 -- greatest number of free live cells in rows i + 1 to h when row i - 1 is a and row i is b
-pub record EntryRight (rule : Rule) (w h : ℕ) (givens : List ℕ) (i a b : ℕ) : Type 0 where
-  pub from-below : (table : List ℕ) → (i < h → RightGridLayer rule w h givens table (i + 1))
-      → entry (kindOf (nextUnder rule) w h givens) (h - i) a b (readsOf w table (i + 1) b) ≡ rightEntry (kindOf (nextUnder rule) w h givens) (h - i) a b
-  pub means : Greatest rule w h givens (h - i) a b (rightEntry (kindOf (nextUnder rule) w h givens) (h - i) a b)
+pub record EntryRight (halves : Bool) (rule : Rule) (w h : ℕ) (givens : List ℕ) (i a b : ℕ) : Type 0 where
+  pub from-below : (table : List ℕ) → (i < h → RightGridLayer halves rule w h givens table (i + 1))
+      → entry (kindOf halves (nextUnder rule) w h givens) (h - i) a b (readsOf (rowDigits halves w) table (i + 1) b)
+      ≡ rightEntry (kindOf halves (nextUnder rule) w h givens) (h - i) a b
+  pub means : Greatest halves rule w h givens (h - i) a b (rightEntry (kindOf halves (nextUnder rule) w h givens) (h - i) a b)
 
 abbrev pub EntriesRight : Type 0
-EntriesRight = (rule : Rule) (w h : ℕ) (givens : List ℕ) → Sized w h → (i a b : ℕ) → i ≤ h → b < 2 ^ w → EntryRight rule w h givens i a b
+EntriesRight =
+    (halves : Bool) (rule : Rule) (w h : ℕ) (givens : List ℕ) → SizedBy halves w h → (i a b : ℕ) → i ≤ h → b < 2 ^ rowDigits halves w
+    → EntryRight halves rule w h givens i a b
 
 -- ---- the score and all live cells
 -- the cells that are given live
@@ -97,7 +109,8 @@ GivensApart = (w h : ℕ) (givens board : List ℕ) → KeepsGivens w h givens b
 
 -- so the wanted board is the best by all live cells too
 abbrev pub SameBest : Type 0
-SameBest = (rule : Rule) (w h : ℕ) (givens board : List ℕ) → Optimal rule w h givens board ↔ BestBy (population w h) rule w h givens board
+SameBest =
+    (halves : Bool) (rule : Rule) (w h : ℕ) (givens board : List ℕ) → OptimalBy halves rule w h givens board ↔ BestBy halves (population w h) rule w h givens board
 
 -- ---- edge threes
 -- Req 04 loses nothing: a grid that has a still board that keeps the givens passes check 14, whichever call makes it, and one that opening or a working
@@ -112,13 +125,14 @@ pub record EdgeThreeHasNoBoard : Type 0 where
 
 -- ---- rows go straight to the board
 -- Req 03, of a unit of a call that passed its checks: one of filling changes no byte of the board; one that chooses row k changes no byte outside row
--- k, and row k then reads as the last row that the job carries. (`ReadsAsRow` of crate `board_rows`: what `readRow` reads is `rowOf`'s row.)
+-- k, and row k then reads as the last row that the job carries. (`ReadsAsRow` of crate `board_rows`: what `readRow` reads with a digit for each cell is
+-- `rowOf`'s row. Of a mirror job it reads the left half, and `CellsWritten` there has all w bytes.)
 abbrev pub RowsToBoard : Type 0
 RowsToBoard =
     (givens : List ℕ) (s s′ : State) → workCheck grid (s .job) givens (s .table) (s .board) ≡ passed → unitOf givens s ≡ next s′
     → OnBoard (gridKind (s .job .kind) (s .job .rule) (s .job .width) (s .job .height) givens) (s .job .stage) s s′
 
--- ---- the same board from either kind
+-- ---- the same board from two layers
 -- What two lists of calls come to, from two jobs of one grid: to the same board and the same last answer, or both to none. Where each list reaches its
 -- job's length, its board is that one.
 pub data Alike (A A′ : Aim (List ℕ)) (calls calls′ : List (Call grid)) (s s′ : State) : Type 0 where

@@ -5,7 +5,7 @@ use Prim.Native.Nat.{ℕ}
 use Rattle.elimination.specs.Job.{Setup}
 use Rattle.rule.specs.Rule.{nextUnder}
 use Rattle.rule.specs.declared.Rule.{Rule}
-use Rattle.job.specs.Jobs.{planOf}
+use Rattle.job.specs.Jobs.{halvesOf, kindDigits, planOf}
 use Rattle.job.specs.declared.Kind.{Kind}
 use Rattle.service.specs.Service.{Service}
 use Rattle.service.specs.Service as Shared
@@ -22,9 +22,14 @@ abbrev pub Step : Type 0
 Step = Shared.Step (List ℕ)
 
 -- a grid's job: by the plan of its kind entries are filled by the rules of a score table and rows are chosen, and each is written into its part of the
--- board; a row's number has a binary digit for each of its cells
+-- board, by how the kind holds rows
 abbrev pub setupOf : Kind → Rule → ℕ → ℕ → List ℕ → Setup ℕ (List ℕ)
-setupOf kind rule w h givens = record { kind = kindOf (nextUnder rule) w h givens; height = h; write = putRow w w; plan = planOf kind w h }
+setupOf kind rule w h givens = record {
+  kind = kindOf (halvesOf kind) (nextUnder rule) w h givens;
+  height = h;
+  write = putRow (kindDigits kind w) w;
+  plan = planOf kind w h;
+}
 
 -- one unit
 unfoldable pub unitOf : List ℕ → State → Step

@@ -4,7 +4,7 @@ use mathlib.Core.List.{List}
 use Prim.Native.Nat.{ℕ}
 use Rattle.board.specs.Answers.{Answer, refusalSays, _then_}
 use Rattle.board.specs.Checks.{lengthCheck, tableCheck}
-use Rattle.job.specs.Jobs.{layersOf, readCheck}
+use Rattle.job.specs.Jobs.{kindDigits, layersOf, readCheck}
 use Rattle.job.specs.declared.Job.{Job}
 use Rattle.service.specs.Service.{unfinished, finished, infeasible}
 use Rattle.solver.specs.declared.Status.{Status}
@@ -12,9 +12,9 @@ use Rattle.solver.specs.declared.Status.{Status}
 -- the checks after 7: those of what is read, as opening makes them, then 5, and 6 by the layers of the job's kind
 unfoldable pub lentCheck : Job → List ℕ → List ℕ → List ℕ → Answer
 lentCheck j givens table board =
-    readCheck (j .rule) (j .width) (j .height) givens then
+    readCheck (j .kind) (j .rule) (j .width) (j .height) givens then
     lengthCheck 5 (j .width) (j .height) board then
-    tableCheck (j .width) (layersOf (j .kind) (j .height)) table
+    tableCheck (kindDigits (j .kind) (j .width)) (layersOf (j .kind) (j .height)) table
 
 -- the paper's number and values of each answer
 abbrev pub statusSays : Status → Answer

@@ -25,10 +25,11 @@ pub fn choose(
     requires { ⌜ Chooses job r source (now givens) (now table) (now board) ⌝ }
     ensures { λ r. ⌜ Moves job (now (givens .entry)) (now (table .entry)) (now (board .entry)) r (now (table .entry)) (now (board .exit)) ⌝ }
 {
+    let kind = job.kind;
     let w = job.width;
     let h = job.height;
     let t = job.numbers();
-    let want = score_table::most_live();
+    let want = score_table::most_live(kind.halves());
     match score_table::choose_row(next, want, w, h, r, source, t.above, t.last, givens, table) {
         Picked::Nothing => {
             if r != 0 {
@@ -37,7 +38,7 @@ pub fn choose(
             Stepped::Next(job.after(Chosen::Nothing))
         }
         Picked::Row { row, worth } => {
-            board_rows::write_row(w, w, r, row, board);
+            board_rows::write_row(kind.row_digits(w), w, r, row, board);
             Stepped::Next(job.after(Chosen::Row { row, worth }))
         }
     }

@@ -19,7 +19,7 @@ ghost use Rattle.solver.specs.Units.{grid};
 ghost use Rattle.solver.specs.Calls.{resultOf};
 ghost use Rattle.solver.specs.Inner.{Lent, lentState};
 
-// The checks of a working call: 7 as pausing, then 3, 4, 14, 5, 6.
+// The checks of a working call: 7 as pausing, then 3, 4, 14, 15, 5, 6.
 pub fn check_work(job: Job, givens: &[u8], table: &[u16], board: &[u8]) -> Check
     ensures { λ r. ⌜ checkSays r ≡ workCheck grid job (now (givens .entry)) (now (table .entry)) (now (board .entry)) ⌝ }
 {
@@ -29,13 +29,13 @@ pub fn check_work(job: Job, givens: &[u8], table: &[u16], board: &[u8]) -> Check
     let kind = job.kind;
     let w = job.width;
     let h = job.height;
-    if let Check::Refused(r) = job::check_read(job.rule, w, h, givens) {
+    if let Check::Refused(r) = job::check_read(kind, job.rule, w, h, givens) {
         return Check::Refused(r);
     }
     if !board::has_length(board, w, h) {
         return Check::Refused(Refusal::BoardLength);
     }
-    board::check_table(w, kind.layers(h), table)
+    board::check_table(kind.row_digits(w), kind.layers(h), table)
 }
 
 // The answer for a job in a stage.
@@ -62,12 +62,13 @@ fn status_of(stage: Stage) -> Status
     }
 }
 
-// The entries to fill at once, from one of a layer on: what the layer has left or the allowance, whichever is less.
-fn entries_now(w: usize, entry: usize, left: usize) -> usize
-    requires { ⌜ (w ≤ maxWidth) × (entry < 4 ^ w) ⌝ }
-    ensures { λ r. ⌜ r ≡ min (4 ^ w - entry) left ⌝ }
+// The entries to fill at once, from one of a layer on, where a row's number has so many binary digits: what the layer has left or the allowance,
+// whichever is less.
+fn entries_now(digits: usize, entry: usize, left: usize) -> usize
+    requires { ⌜ (digits ≤ maxWidth) × (entry < 4 ^ digits) ⌝ }
+    ensures { λ r. ⌜ r ≡ min (4 ^ digits - entry) left ⌝ }
 {
-    let rest = board::table_size(w, 1) - entry;
+    let rest = board::table_size(digits, 1) - entry;
     if rest < left { rest } else { left }
 }
 
@@ -97,8 +98,9 @@ pub fn work_on(
                 target,
                 entry,
             } => {
-                let count = entries_now(job.width, entry, left);
-                let want = score_table::most_live();
+                let kind = job.kind;
+                let count = entries_now(kind.row_digits(job.width), entry, left);
+                let want = score_table::most_live(kind.halves());
                 layers::fill(
                     &next,
                     want,

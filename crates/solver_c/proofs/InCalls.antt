@@ -39,7 +39,7 @@ pub calls-made : {j : Job} {g t β : List ℕ} {allowance n calls r : ℕ} {now 
 calls-made is all e = record { is = rw (e, is, all) }
 
 -- ---- the number of no kind, and of a kind by what opening answers
-pub no-kind : {n w h : ℕ} {g : List ℕ} {allowance calls : ℕ} → kindAt n ≡ none → (t β : List ℕ) → WorksInCalls n w h g t β allowance calls 1003 t β
+pub no-kind : {n w h : ℕ} {g : List ℕ} {allowance calls : ℕ} → kindAt n ≡ none → (t β : List ℕ) → WorksInCalls n w h g t β allowance calls 2003 t β
 no-kind e t β = record { is = rw e }
 
 module _ {kind : Kind} {rule : Rule} {w h : ℕ} {g : List ℕ} {o : JobResult} (O : Opens kind rule w h g o) (ruled : rule ≡ conwayRule) where
@@ -47,7 +47,7 @@ module _ {kind : Kind} {rule : Rule} {w h : ℕ} {g : List ℕ} {o : JobResult} 
   answered = rw (← ruled) (sym (O .says))
 
   module _ {n allowance calls : ℕ} (e : kindAt n ≡ some kind) where
-    pub opening-refuses : {r : Refusal} → o ≡ JobResult.Refused r → (t β : List ℕ) → WorksInCalls n w h g t β allowance calls 1003 t β
+    pub opening-refuses : {r : Refusal} → o ≡ JobResult.Refused r → (t β : List ℕ) → WorksInCalls n w h g t β allowance calls 2003 t β
     opening-refuses q t β = record { is = rw (e, answered, q) }
 
     pub opening-takes : {j : Job} → o ≡ JobResult.Ready j → {t β t′ β′ : List ℕ} {r : ℕ} → MakesCalls j g t β allowance calls r t′ β′

@@ -26,14 +26,16 @@ callsOf givens allowance (suc n) s =
     workOf grid (now .job) givens (now .table) (now .board) allowance
 
 -- ---- numbers for C
--- an answer as one number, by its end mark: the score of finished, which is at most 600, 1002 infeasible, 1001 unfinished; and 1003 any refusal
+-- an answer as one number, by its end mark: the score of finished, which is at most 1,200, 2002 infeasible, 2001 unfinished; and 2003 any refusal
 abbrev pub codeOf : Answer → ℕ
-codeOf (gives values) = cond (eqb (getD values 0 0) 1) (getD values 1 0) (cond (eqb (getD values 0 0) 2) 1002 1001)
-codeOf (refuses n values) = 1003
+codeOf (gives values) = cond (eqb (getD values 0 0) 1) (getD values 1 0) (cond (eqb (getD values 0 0) 2) 2002 2001)
+codeOf (refuses n values) = 2003
 
 -- the kind with a number
 abbrev pub kindAt : ℕ → Option Kind
-kindAt n = cond (eqb n (kindNumber Kind.Ordinary)) (some Kind.Ordinary) (cond (eqb n (kindNumber Kind.TwoLayers)) (some Kind.TwoLayers) none)
+kindAt n =
+    cond (eqb n (kindNumber Kind.Ordinary)) (some Kind.Ordinary)
+    (cond (eqb n (kindNumber Kind.TwoLayers)) (some Kind.TwoLayers) (cond (eqb n (kindNumber Kind.Mirror)) (some Kind.Mirror) none))
 
 -- ---- the function
 -- the answer, and the table and the board afterwards
@@ -48,7 +50,7 @@ leftBy r = record { answer = codeOf (r .answer); table = r .state .table; board 
 -- by what opening answers, and by the number of a kind: without a job nothing is written
 module _ (w h : ℕ) (givens table board : List ℕ) (allowance calls : ℕ) where
   abbrev pub turnedAway : Left
-  turnedAway = record { answer = 1003; table = table; board = board }
+  turnedAway = record { answer = 2003; table = table; board = board }
 
   abbrev pub leftOpened : Answer → Kind → Left
   leftOpened (gives values) kind = leftBy (callsOf givens allowance calls (lentState (start kind conwayRule w h) table board))

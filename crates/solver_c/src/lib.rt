@@ -7,15 +7,16 @@ ghost use mathlib.Core.Path.{_≡_};
 ghost use Rattle.solver.specs.Working.{statusSays};
 ghost use Rattle.solver_c.specs.InCalls.{codeOf, WorksInCalls, MakesCalls};
 
-// Answers that are no score, which is at most 600.
-const UNFINISHED: usize = 1001;
+// Answers that are no score, which is at most 1,200.
+const UNFINISHED: usize = 2001;
 
-const INFEASIBLE: usize = 1002;
+const INFEASIBLE: usize = 2002;
 
-const REFUSED: usize = 1003;
+const REFUSED: usize = 2003;
 
-// Opens a job under Conway's rule, of the kind with a number, 0 ordinary, 1 two layers, and makes so many working calls of an allowance. The
-// score where the last one answers it; 1001 unfinished, also where no call is made; 1002 no still board; 1003 the number of no kind, or refused, by opening or by the last call.
+// Opens a job under Conway's rule, of the kind with a number, 0 ordinary, 1 two layers, 2 mirror boards, and makes so many working calls of an allowance.
+// The score where the last one answers it; 2001 unfinished, also where no call is made; 2002 no board; 2003 the number of no kind, or refused, by opening
+// or by the last call.
 #[no_mangle]
 pub extern "C" fn work_in_calls(
     kind: usize,
@@ -32,6 +33,7 @@ pub extern "C" fn work_in_calls(
     let kind = match kind {
         0 => Kind::Ordinary,
         1 => Kind::TwoLayers,
+        2 => Kind::Mirror,
         _ => return REFUSED,
     };
     match job::open(kind, rule::conway(), w, h, givens) {

@@ -148,7 +148,7 @@ pub fn is_other_refused(job: Job) -> bool {
 pub fn other(kind: Kind) -> Kind {
     match kind {
         Kind::Ordinary => Kind::TwoLayers,
-        Kind::TwoLayers => Kind::Ordinary,
+        _ => Kind::Ordinary,
     }
 }
 
@@ -157,6 +157,7 @@ pub fn number_of(kind: Kind) -> usize {
     match kind {
         Kind::Ordinary => 0,
         Kind::TwoLayers => 1,
+        Kind::Mirror => 2,
     }
 }
 

@@ -156,15 +156,15 @@ fn random_size(kind: Kind, seed: usize) -> Size {
 
 fn most_rows(kind: Kind, w: usize) -> usize {
     match kind {
-        Kind::Ordinary => match w {
-            1..=2 => 60,
-            3 => 16,
-            _ => 4,
-        },
         Kind::TwoLayers => match w {
             1 => 60,
             2 => 20,
             3 => 8,
+            _ => 4,
+        },
+        _ => match w {
+            1..=2 => 60,
+            3 => 16,
             _ => 4,
         },
     }
@@ -173,8 +173,8 @@ fn most_rows(kind: Kind, w: usize) -> usize {
 fn random_numbers(rule: Rule, s: Size, seed: usize) -> Checkpoint {
     let kind = s.kind;
     match kind {
-        Kind::Ordinary => running(rule, s, seed),
         Kind::TwoLayers => at_any_stage(rule, s, seed),
+        _ => running(rule, s, seed),
     }
 }
 

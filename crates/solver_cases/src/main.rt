@@ -1,5 +1,5 @@
-// Tries the solver by both kinds of job: every small grid against plain enumeration, the same in random pieces, other rules, edge threes,
-// forged numbers, and lengths at the limits. Prints what was tried.
+// Tries the solver by ordinary jobs and by those of two layers: every small grid against plain enumeration, the same in random pieces, other rules,
+// edge threes, forged numbers, and lengths at the limits. Prints what was tried. Crate mirror_cases has the jobs of mirror boards.
 mod calls;
 mod edges;
 mod forged;

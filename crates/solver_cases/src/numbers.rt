@@ -222,8 +222,8 @@ fn is_job(job: Job) -> bool {
 fn random_job(kind: Kind, c: Checkpoint, seed: usize) -> Job {
     let stage = random::below(4, seed, 700000);
     let numbers = match kind {
-        Kind::Ordinary => without_rows(c, stage),
         Kind::TwoLayers => c,
+        _ => without_rows(c, stage),
     };
     job_in(kind, numbers, stage)
 }
@@ -284,8 +284,8 @@ fn random_numbers(kind: Kind, seed: usize) -> Checkpoint {
         _ => 3,
     };
     let units = match kind {
-        Kind::Ordinary => random_units(s, mark, seed),
         Kind::TwoLayers => two_layer_units(s, mark, seed),
+        _ => random_units(s, mark, seed),
     };
     let n = sizes::rows(s.w);
     let rule = random_rule(seed);
@@ -377,8 +377,8 @@ fn random_row(n: usize, seed: usize, place: usize) -> usize {
 fn random_live(s: Size, units: usize, seed: usize) -> usize {
     let kind = s.kind;
     let chosen = match kind {
-        Kind::Ordinary => num::wrapping_sub_usize(units, s.entries),
         Kind::TwoLayers => sizes::chosen(s, units),
+        _ => num::wrapping_sub_usize(units, s.entries),
     };
     let most = sizes::times(s.w, calls::least(chosen, 61));
     match random::below(16, seed, 800010) {

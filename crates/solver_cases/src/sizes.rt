@@ -23,16 +23,6 @@ pub fn sized(kind: Kind, w: usize, h: usize) -> Size {
     let q = layer(w);
     let entries = times(h, q);
     match kind {
-        Kind::Ordinary => Size {
-            kind,
-            w,
-            h,
-            cells,
-            entries,
-            fills: entries,
-            room: entries,
-            first: 0,
-        },
         Kind::TwoLayers => Size {
             kind,
             w,
@@ -42,6 +32,16 @@ pub fn sized(kind: Kind, w: usize, h: usize) -> Size {
             fills: filled_again(q, h, h),
             room: times(2, q),
             first: if h == 1 { q } else { 0 }, // layer 1 alone, which lies in half 1
+        },
+        _ => Size {
+            kind,
+            w,
+            h,
+            cells,
+            entries,
+            fills: entries,
+            room: entries,
+            first: 0,
         },
     }
 }
@@ -59,8 +59,8 @@ pub fn until_row(s: Size, k: usize) -> usize {
     }
     let kind = s.kind;
     let filled = match kind {
-        Kind::Ordinary => s.entries,
         Kind::TwoLayers => filled_again(layer(s.w), s.h, k),
+        _ => s.entries,
     };
     num::wrapping_add_usize(filled, k)
 }

@@ -192,8 +192,8 @@ fn offer(
 fn place(s: Size, i: usize, a: usize, b: usize) -> usize {
     let kind = s.kind;
     let layers = match kind {
-        Kind::Ordinary => num::wrapping_sub_usize(i, 1),
         Kind::TwoLayers => i % 2,
+        _ => num::wrapping_sub_usize(i, 1),
     };
     let start = sizes::times(layers, sizes::layer(s.w));
     let above = sizes::times(a, sizes::rows(s.w));

@@ -1,6 +1,7 @@
 -- Turned boards and grids: what holds of the two reflections that all eight turns are made of holds of all, and back by the inverse.
 -- Assumes nothing.
 use mathlib.Core.Path.{_≡_, refl, sym, _∙_, ap, ap₂, subst}
+use mathlib.Core.Bool.{false}
 use mathlib.Core.Option.{Option, some}
 use mathlib.Core.List.{List}
 use Prim.Native.Nat.{ℕ, _*_, _<_, _≤_}
@@ -8,6 +9,7 @@ use native.Mathlib.Omega.{arith}
 use lib.ListN.{length, getD}
 use Rattle.board.specs.Boards.{maxWidth, Sized, Bytes}
 use Rattle.board.proofs.Sums.{total-same}
+use Rattle.board.proofs.Widths.{size-by}
 use Rattle.rule.specs.Rule.{Allowed}
 use Rattle.rule.specs.declared.Rule.{Rule}
 use Rattle.life.specs.Plane.{onPlane, Still}
@@ -79,10 +81,10 @@ module _ (t : Turn) {w h : ℕ} where
     live = λ p l e. let m = rw (area t w h) at l in turned-at t w h 0 b m ∙ K .live (source t w h p) (source-lt t w h m) (sym (turned-at t w h 0 g m) ∙ e);
   }
 
-  solution-kept : {rule : Rule} {g b : List ℕ} → h ≤ maxWidth → Solution rule w h g b
+  solution-kept : {rule : Rule} {g b : List ℕ} → Solution rule w h g b
       → Solution rule (turnedWidth t w h) (turnedHeight t w h) (turnedBytes t w h g) (turnedBytes t w h b)
-  solution-kept {rule} {b = b} l S = record {
-    grid = record { size = turned-size (S .grid .size) l; bytes = turned-bytes (S .grid .bytes) };
+  solution-kept {rule} {b = b} S = record {
+    bytes = turned-bytes (S .bytes);
     still = still-kept t rule w h b (S .still);
     keeps = turned-keeps (S .keeps);
   }
@@ -126,12 +128,12 @@ module _ (rule : Rule) (t : Turn) {w h : ℕ} {g : List ℕ} (T : Turnable w h g
   tg = turnedBytes t w h g
 
   turned-solution : {b : List ℕ} → Solution rule w h g b → Solution rule W H tg (turnedBytes t w h b)
-  turned-solution S = solution-kept t (T .low) S
+  turned-solution S = solution-kept t S
 
   back-solution : {c : List ℕ} → Solution rule W H tg c → Solution rule w h g (turnedBytes (inverse t) W H c)
   back-solution {c} S =
       back t w h (λ w h xs. Solution rule w h xs (turnedBytes (inverse t) W H c)) g (T .grid .bytes .long)
-      (solution-kept (inverse t) (grid-turned t w h g T .low) S)
+      (solution-kept (inverse t) S)
 
   back-score : (c : List ℕ) → score w h g (turnedBytes (inverse t) W H c) ≡ score W H tg c
   back-score c =
@@ -161,9 +163,9 @@ solution-turned rule t w h g b T e = (
 
 -- ---- the best score
 has-best : {rule : Rule} → Allowed rule → {w h : ℕ} → Sized w h → (g : List ℕ) → (x : Option ℕ) × BestScore rule w h g x
-has-best {rule} allowed {w} {h} z g = go (choice-is-optimal rule allowed w h g z)
+has-best {rule} allowed {w} {h} z g = go (choice-is-optimal false rule allowed w h g (size-by z))
   where
-    go : BestOrNone rule w h g → (x : Option ℕ) × BestScore rule w h g x
+    go : BestOrNone false rule w h g → (x : Option ℕ) × BestScore rule w h g x
     go (Solver.best b B rows is) = (some (score w h g b), best b B)
     go (Solver.none n is) = (Option.none, noBoard n)
 

@@ -20,7 +20,7 @@ wide : (w h k : ℕ) → k < w * h → 0 < w
 wide zero h k l = absurd (omega (arith, mul-comm 0 h))
 wide (suc w) h k l = omega arith
 
-cell-inside : {w h k : ℕ} → k < w * h → Inside w h (cellAt w k)
+pub cell-inside : {w h k : ℕ} → k < w * h → Inside w h (cellAt w k)
 cell-inside {w} {h} {k} l =
     let p = wide w h k l in
     record { low = div-lt-iff-lt-mul p .1 (rw (mul-comm w h) at l); narrow = mod-lt k p }

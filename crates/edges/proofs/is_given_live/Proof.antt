@@ -1,76 +1,19 @@
--- `edges::is_given_live` meets its contract: outside the grid and past the givens no cell is given live, and the place is formed only where it is one of
--- the givens'.
+-- `edges::is_given_live` meets its contract: the mark says so.
 -- Assumes nothing.
-use mathlib.Core.Path.{sym}
-use Prim.Native.Nat.{_+_, _*_, _-_, _/_, _≤_, _<_}
-use native.Mathlib.Nat.{div-lt-iff-lt-mul, le-div-iff-mul-le}
-use native.Mathlib.Omega.{arith}
+use mathlib.Core.Path.{ap}
+use Prim.Native.Nat.{ℕ}
 use borrow.Author.Needs.{needs}
-use borrow.Author.Tests.{ltb-true, ltb-false}
-use lib.ListN.{length}
-use Rattle.edges.proofs.Edges.{not-live, live-marked, place-marked}
+use lib.Dec.{eqb}
+use Rattle.edges.specs.Edges.{givenLiveAt}
 use Rattle.edges.proofs.is_given_live.Statement.{statement}
 use Rattle.edges.proofs.is_given_live.Tie as tie
 
+byte-at-requires : tie.Need-byte-at-requires
+byte-at-requires c κs = search needs
+
 returns : tie.Need-returns
-returns c = sym (not-live _ _ _ _ _ (λ s. omega (arith, s .some-row)))
-
-returns-2 : tie.Need-returns-2
-returns-2 c = sym (not-live _ _ _ _ _ (λ s. omega (arith, s .high)))
-
-returns-3 : tie.Need-returns-3
-returns-3 c = sym (not-live _ _ _ _ _ (λ s. omega (arith, s .some-column)))
-
-returns-4 : tie.Need-returns-4
-returns-4 c = sym (not-live _ _ _ _ _ (λ s. omega (arith, s .wide)))
-
-returns-5 : tie.Need-returns-5
-returns-5 c = sym (not-live _ _ _ _ _ (λ s. omega (arith, place-marked _ _ _ s)))
-
-div-if6 : tie.Need-div-if6
-div-if6 c = search needs
-
-returns-6 : tie.Need-returns-6
-returns-6 c =
-    let a = c .before .before .before .before .before .before .args in
-    let l : (length (a .givens .now) - a .c) / a .w < a .r - 1 = omega (arith, ltb-true) in
-    let m = div-lt-iff-lt-mul {k = a .w} (omega arith) .0 l in
-    sym (not-live _ _ _ _ _ (λ s. omega (arith, place-marked _ _ _ s)))
-
--- the place is one of the givens'
-place-at :
-    (c : tie.Else6) → let a = c .before .before .before .before .before .before .args in
-    (a .r - 1) * a .w + (a .c - 1) < length (a .givens .now)
-place-at c =
-    let a = c .before .before .before .before .before .before .args in
-    let l : a .r - 1 ≤ (length (a .givens .now) - a .c) / a .w = omega (arith, ltb-false) in
-    let m = le-div-iff-mul-le {k = a .w} (omega arith) .0 l in
-    omega arith
-
-mul-result : tie.Need-mul-result
-mul-result c = omega (arith, place-at c)
-
-add-result : tie.Need-add-result
-add-result c = omega (arith, place-at c)
-
-shared-slice-read-result : tie.Need-shared-slice-read-result
-shared-slice-read-result c = place-at (c .before)
-
-returns-7 : tie.Need-returns-7
-returns-7 c = sym (live-marked _ _ _ _ _ (omega arith) (omega arith) (omega arith) (omega arith))
+unfolding givenLiveAt
+returns c = ap (λ (x : ℕ). eqb x 2) (c .byte-at .ensures)
 
 pub is-given-live-spec : {M : Type 1} → statement M
-is-given-live-spec =
-    tie.close
-    (tie.spec
-    returns
-    returns-2
-    returns-3
-    returns-4
-    returns-5
-    div-if6
-    returns-6
-    mul-result
-    add-result
-    shared-slice-read-result
-    returns-7)
+is-given-live-spec = tie.close (tie.spec byte-at-requires returns)

@@ -8,15 +8,15 @@ use native.Mathlib.Omega.{arith}
 use borrow.Author.Needs.{needs}
 use borrow.Author.Tests.{leb-true, not-true, not-false}
 use lib.ListN.{length}
-use Rattle.board.specs.Boards.{maxWidth, maxHeight}
+use Rattle.board.specs.Boards.{maxWidth, maxHeight, maxMirrorWidth}
 use Rattle.rule.specs.Rule.{entryOf}
 use Rattle.elimination.specs.Kind.{choose}
 use Rattle.elimination.specs.Table.{reads}
-use Rattle.score_table.specs.Rows.{rowWorth, widest, digitsOf}
+use Rattle.board.proofs.Widths.{width-le}
+use Rattle.score_table.specs.Rows.{rowWorth, digitsOf}
 use Rattle.score_table.specs.ScoreTable.{kindFor}
 use Rattle.score_table.specs.Inner.{Memory, choiceOf}
 use Rattle.score_table.specs.Calls.{callFits, layerFits}
-use Rattle.score_table.proofs.WholeRows.{width-le}
 use Rattle.score_table.proofs.Entries.{row-room, layer-room, found-row}
 use Rattle.score_table.proofs.Calls.{call-memory, picks-unfit, picks-past, picks-short, picks-above, picks-last, picks-choice, picks-row}
 use Rattle.score_table.proofs.choose_row.Statement.{statement}
@@ -30,16 +30,16 @@ lent : (c : tie.Else1) → let g = c .before .before .before .before .args in Me
 lent c = call-memory (c .before .before .before .before .args .want) _ _ _ (fitting c)
 
 -- the digits of a row's number, and the layer, past the third test
-narrow : (c : tie.After-digits-of) → c .digits-of .result ≤ maxWidth
-narrow c = rw (c .digits-of .ensures) (lent (c .before .before) .width .narrow)
+narrow : (c : tie.After-row-digits) → c .row-digits .result ≤ maxWidth
+narrow c = rw (c .row-digits .ensures) (lent (c .before .before) .width .narrow)
 
 layered : (c : tie.Else3) → let g = c .before .before .before .before .before .before .before .before .args in
     layerFits (digitsOf (g .want) (g .w)) (length (g .table .now)) (g .source) ≡ true
-layered c = rw (c .before .before .digits-of .ensures) at (sym (c .before .layer-fits .ensures) ∙ not-false _ (c .if3 .left))
+layered c = rw (c .before .before .row-digits .ensures) at (sym (c .before .layer-fits .ensures) ∙ not-false _ (c .if3 .left))
 
 two : (c : tie.After-row-codes) → let g = c .before .before .before .before .before .before .before .before .before .args in
     c .row-codes .result ≡ 2 ^ digitsOf (g .want) (g .w)
-two c = rw (c .before .before .before .digits-of .ensures) at (c .row-codes .ensures .0)
+two c = rw (c .before .before .before .row-digits .ensures) at (c .row-codes .ensures .0)
 
 -- past all tests: there is such a row, and the two above it are rows
 abbrev start : tie.Else5 → tie.Start
@@ -57,14 +57,14 @@ below c = rw (two (c .before .before)) at (c .if5 .left)
 inside : (c : tie.Else5) → start c .args .r < start c .args .h
 inside c = c .before .before .before .before .before .before .if2 .left
 
-wide : (c : tie.Else5) → start c .args .w ≤ widest
+wide : (c : tie.Else5) → start c .args .w ≤ maxMirrorWidth
 wide c = width-le _ _ (lent (fitted c) .width)
 
 -- the row's givens and its entries are within the memory
 cells-room : (c : tie.Else5) → let g = start c .args in g .r * g .w + g .w ≤ length (g .givens .now)
 cells-room c = rw (lent (fitted c) .marks) (row-room _ _ _ (inside c))
 
-cells-le : (c : tie.Else5) → length (start c .args .givens .now) ≤ widest * maxHeight
+cells-le : (c : tie.Else5) → length (start c .args .givens .now) ≤ maxMirrorWidth * maxHeight
 cells-le c = rw (lent (fitted c) .marks) (mul-le-mul (wide c) (lent (fitted c) .low))
 
 first-room : (c : tie.Else5) → let g = start c .args in
@@ -89,8 +89,8 @@ returns c = picks-unfit _ _ _ _ _ _ _ _ _ _ (sym (c .before .fits2 .ensures) ∙
 returns-2 : tie.Need-returns-2
 returns-2 c = picks-past _ _ _ _ _ _ _ _ _ _ (fitting (c .before)) (c .if2 .taken)
 
-digits-of-requires : tie.Need-digits-of-requires
-digits-of-requires c κs = search needs
+row-digits-requires : tie.Need-row-digits-requires
+row-digits-requires c κs = search needs
 
 layer-fits-requires : tie.Need-layer-fits-requires
 layer-fits-requires c κs = narrow c
@@ -99,7 +99,7 @@ returns-3 : tie.Need-returns-3
 returns-3 c =
     let d = c .before .before in
     picks-short _ _ _ _ _ _ _ _ _ _ (fitting (d .before .before)) (d .before .if2 .left)
-    (rw (d .digits-of .ensures) at (sym (c .before .layer-fits .ensures) ∙ not-true _ (c .if3 .taken)))
+    (rw (d .row-digits .ensures) at (sym (c .before .layer-fits .ensures) ∙ not-true _ (c .if3 .taken)))
 
 row-codes-requires : tie.Need-row-codes-requires
 row-codes-requires c κs = narrow (c .before .before)
@@ -172,7 +172,7 @@ choose-row-spec =
     fits-requires
     returns
     returns-2
-    digits-of-requires
+    row-digits-requires
     layer-fits-requires
     returns-3
     row-codes-requires

@@ -17,20 +17,20 @@ use Rattle.score_table.proofs.fill_fits.Tie as tie
 fitting : (c : tie.Else1) → let g = c .before .before .before .args in callFits (g .want) (g .w) (g .h) (g .givens .now) ≡ true
 fitting c = sym (c .before .fits2 .ensures) ∙ not-false _ (c .if1 .left)
 
-narrow : (c : tie.After-digits-of) → c .digits-of .result ≤ maxWidth
+narrow : (c : tie.After-row-digits) → c .row-digits .result ≤ maxWidth
 narrow c =
     let d = c .before .before in
-    rw (c .digits-of .ensures) (call-memory (d .before .before .before .args .want) _ _ _ (fitting d) .width .narrow)
+    rw (c .row-digits .ensures) (call-memory (d .before .before .before .args .want) _ _ _ (fitting d) .width .narrow)
 
 size : (c : tie.After-layer-size) → let g = c .before .before .before .before .before .before .args in c .layer-size .result ≡ 4 ^ digitsOf (g .want) (g .w)
-size c = rw (c .before .digits-of .ensures) at (c .layer-size .ensures .0)
+size c = rw (c .before .row-digits .ensures) at (c .layer-size .ensures .0)
 
 inside : (c : tie.Else4) → let g = c .before .before .before .before .before .before .before .before .args in g .from + g .count ≤ 4 ^ digitsOf (g .want) (g .w)
 inside c = omega (arith, size (c .before .before), c .before .if3 .left, c .if4 .left)
 
 target-in : (c : tie.Else5) → let g = c .before .before .before .before .before .before .before .before .before .before .args in
     layerFits (digitsOf (g .want) (g .w)) (g .n) (g .target) ≡ true
-target-in c = rw (c .before .before .before .before .before .digits-of .ensures) at (sym (c .before .layer-fits .ensures) ∙ not-false _ (c .if5 .left))
+target-in c = rw (c .before .before .before .before .before .row-digits .ensures) at (sym (c .before .layer-fits .ensures) ∙ not-false _ (c .if5 .left))
 
 fits-requires : tie.Need-fits-requires
 fits-requires c κs = search needs
@@ -41,8 +41,8 @@ returns c = fits-unfit _ _ _ _ _ _ _ _ _ _ (sym (c .before .fits2 .ensures) ∙ 
 returns-2 : tie.Need-returns-2
 returns-2 c = fits-past _ _ _ _ _ _ _ _ _ _ (fitting (c .before)) (c .if2 .taken)
 
-digits-of-requires : tie.Need-digits-of-requires
-digits-of-requires c κs = search needs
+row-digits-requires : tie.Need-row-digits-requires
+row-digits-requires c κs = search needs
 
 layer-size-requires : tie.Need-layer-size-requires
 layer-size-requires c κs = narrow c
@@ -66,7 +66,7 @@ returns-5 c =
     let d = c .before .before in
     let q = d .before .before .before in
     fits-target _ _ _ _ _ _ _ _ _ _ (fitting (q .before .before)) (q .before .if2 .left) (inside d)
-    (rw (q .digits-of .ensures) at (sym (c .before .layer-fits .ensures) ∙ not-true _ (c .if5 .taken)))
+    (rw (q .row-digits .ensures) at (sym (c .before .layer-fits .ensures) ∙ not-true _ (c .if5 .taken)))
 
 returns-6 : tie.Need-returns-6
 returns-6 c =
@@ -81,7 +81,7 @@ returns-7 : tie.Need-returns-7
 returns-7 c =
     let d = c .before .before .before .before in
     let q = d .before .before .before in
-    rw (q .digits-of .ensures) at (c .layer-fits2 .ensures)
+    rw (q .row-digits .ensures) at (c .layer-fits2 .ensures)
     ∙ fits-source _ _ _ _ _ _ _ _ _ _ (fitting (q .before .before)) (q .before .if2 .left) (inside d) (target-in (c .before .before)) (c .before .if6 .left)
 
 pub fill-fits-spec : {M : Type 1} → statement M
@@ -91,7 +91,7 @@ fill-fits-spec =
     fits-requires
     returns
     returns-2
-    digits-of-requires
+    row-digits-requires
     layer-size-requires
     returns-3
     returns-4

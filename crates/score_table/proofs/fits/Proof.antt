@@ -3,7 +3,7 @@
 use mathlib.Core.Path.{_∙_, sym}
 use borrow.Author.Needs.{needs}
 use borrow.Author.Tests.{not-true, not-false}
-use Rattle.score_table.proofs.WholeRows.{width-le}
+use Rattle.board.proofs.Widths.{width-le}
 use Rattle.score_table.proofs.Calls.{grid-of, call-unfit, call-numbers}
 use Rattle.score_table.proofs.fits.Statement.{statement}
 use Rattle.score_table.proofs.fits.Tie as tie

@@ -6,7 +6,7 @@ use native.Mathlib.Nat.{mul-le-mul}
 use native.Mathlib.Omega.{arith}
 use borrow.Author.Needs.{needs}
 use borrow.Author.Tests.{not-true, not-false}
-use Rattle.score_table.specs.Calls.{widthFits}
+use Rattle.board.specs.Boards.{widthFits}
 use Rattle.score_table.proofs.Calls.{grid-wide, grid-narrow, grid-tall, grid-marks}
 use Rattle.score_table.proofs.grid_fits.Statement.{statement}
 use Rattle.score_table.proofs.grid_fits.Tie as tie

@@ -33,7 +33,7 @@ returns c = record {
 }
 
 job-of-requires : tie.Need-job-of-requires
-job-of-requires c κs = let s = numbers-at _ _ (numbers-fit c) .frame .size in (s .narrow, s .low)
+job-of-requires c κs = let s = numbers-at _ _ (numbers-fit c) .frame .size in (s .width, s .low)
 
 returns-2 : tie.Need-returns-2
 unfolding resumeRule

@@ -24,7 +24,7 @@ unfolding jobFits
 returns c = simp (rw (c .before .before .numbers-of .ensures) at (sym (c .before .checkpoint-fits .ensures) ∙ not-true _ (c .if1 .taken)))
 
 stage-fits-requires : tie.Need-stage-fits-requires
-stage-fits-requires c κs = let s = numbers-at _ _ (numbers-fit c) .frame .size in (s .narrow, s .low)
+stage-fits-requires c κs = let s = numbers-at _ _ (numbers-fit c) .frame .size in (s .width, s .low)
 
 returns-2 : tie.Need-returns-2
 unfolding jobFits

@@ -7,12 +7,18 @@ use borrow.Author.Tests.{ne-eqb}
 use Rattle.board.specs.Checks.{tableSize}
 use Rattle.board.proofs.Powers.{table-le, table-within}
 use Rattle.elimination.specs.Shape.{unitsFit}
+use Rattle.job.specs.Jobs.{kindDigits}
 use Rattle.job.proofs.Shapes.{runs-same, ends-not, ends-same}
 use Rattle.job.proofs.numbers.units_fit.Statement.{statement}
 use Rattle.job.proofs.numbers.units_fit.Tie as tie
 
-size-is : (c : tie.After-table-size) → c .table-size .result ≡ tableSize (c .before .before .args .w) (c .before .before .args .h)
-size-is c = let p = c .before .before .pre in c .table-size .ensures ∙ table-within (p .0) (p .1)
+size-is : (c : tie.After-table-size) → let a = c .before .before .before .args in c .table-size .result ≡ tableSize (kindDigits (a .kind) (a .w)) (a .h)
+size-is c =
+    let p = c .before .before .before .pre in
+    rw (c .before .row-digits .ensures) at (c .table-size .ensures) ∙ table-within (p .0 .narrow) (p .1)
+
+row-digits-requires : tie.Need-row-digits-requires
+row-digits-requires c κs = search needs
 
 returns : tie.Need-returns
 unfolding unitsFit
@@ -22,7 +28,7 @@ table-size-requires : tie.Need-table-size-requires
 table-size-requires c κs = search needs
 
 add-result : tie.Need-add-result
-add-result c = let p = c .before .before .pre in rw (size-is c) (omega (arith, table-le (p .0) (p .1)))
+add-result c = let p = c .before .before .before .pre in rw (size-is c) (omega (arith, table-le (p .0 .narrow) (p .1)))
 
 returns-2 : tie.Need-returns-2
 unfolding unitsFit
@@ -34,7 +40,7 @@ returns-3 c = let m = c .before .before .before in simp (m .match .keys2) (ends-
 
 returns-4 : tie.Need-returns-4
 unfolding unitsFit tableSize
-returns-4 c = rw (size-is c) (simp (c .before .match .keys3))
+returns-4 c = rw (size-is c) (simp (c .before .before .match .keys3))
 
 returns-5 : tie.Need-returns-5
 unfolding unitsFit
@@ -43,4 +49,4 @@ returns-5 c = simp (ne-eqb _ 0 (c .match .rest .0 .0 .1), ne-eqb _ 1 (c .match .
 pub units-fit-spec : {M : Type 1} → statement M
 units-fit-spec =
     tie.close
-    (tie.spec returns table-size-requires add-result returns-2 returns-3 returns-4 returns-5)
+    (tie.spec returns row-digits-requires table-size-requires add-result returns-2 returns-3 returns-4 returns-5)

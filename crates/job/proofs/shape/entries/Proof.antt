@@ -1,7 +1,8 @@
--- `job::shape::entries` meets its contract: the shift is a product with 4^w.
+-- `job::shape::entries` meets its contract: the shift is a product with 4 to the digits.
 -- Assumes nothing.
 use mathlib.Core.Path.{_≡_}
 use Prim.Native.Nat.{ℕ, _*_, _%_, _^_, _≤_}
+use native.Mathlib.Omega.{arith}
 use borrow.Author.Needs.{needs}
 use Rattle.board.specs.Boards.{maxWidth, maxHeight}
 use Rattle.board.specs.Checks.{tableSize}
@@ -17,14 +18,19 @@ fits : {w layers : ℕ} → w ≤ maxWidth → layers ≤ maxHeight → layers *
 unfolding tableSize
 fits a b = table-le a b
 
+row-digits-requires : tie.Need-row-digits-requires
+row-digits-requires c κs = search needs
+
 mul-result : tie.Need-mul-result
-mul-result c = search needs
+mul-result c = rw (c .row-digits .ensures) (omega (arith, c .before .pre .0 .narrow))
 
 shl-result : tie.Need-shl-result
-shl-result c = search needs
+shl-result c = rw (c .row-digits .ensures) (omega (arith, c .before .pre .0 .narrow))
 
 returns : tie.Need-returns
-returns c = let e = shifted (c .pre .0) (c .pre .1) in (e, rw e (fits (c .pre .0) (c .pre .1)))
+returns c =
+    let p = c .before .pre in
+    rw (c .row-digits .ensures) (let e = shifted (p .0 .narrow) (p .1) in (e, rw e (fits (p .0 .narrow) (p .1))))
 
 pub entries-spec : {M : Type 1} → statement M
-entries-spec = tie.close (tie.spec mul-result shl-result returns)
+entries-spec = tie.close (tie.spec row-digits-requires mul-result shl-result returns)

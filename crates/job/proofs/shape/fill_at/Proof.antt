@@ -6,10 +6,11 @@ use native.Mathlib.Nat.{one-mul, div-lt-iff-lt-mul}
 use native.Mathlib.Omega.{arith}
 use borrow.Author.Needs.{needs}
 use Rattle.board.proofs.Powers.{four-pos}
+use Rattle.job.specs.Jobs.{kindDigits}
 use Rattle.job.proofs.shape.fill_at.Statement.{statement}
 use Rattle.job.proofs.shape.fill_at.Tie as tie
 
-layer : (c : tie.After-entries) → c .entries .result ≡ 4 ^ c .before .args .w
+layer : (c : tie.After-entries) → c .entries .result ≡ 4 ^ kindDigits (c .before .args .kind) (c .before .args .w)
 layer c = c .entries .ensures .0 ∙ one-mul _
 
 some : (c : tie.After-entries) → 0 < c .entries .result

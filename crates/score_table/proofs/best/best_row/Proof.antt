@@ -10,15 +10,17 @@ use native.Mathlib.Omega.{arith}
 use borrow.Author.Needs.{needs}
 use borrow.Author.Tests.{not-true, not-false}
 use lib.ListN.{length, getD}
+use Rattle.board.specs.Boards.{maxMirrorWidth}
 use Rattle.board.specs.Search.{allBelow}
 use Rattle.board.proofs.Search.{all-none, all-more}
 use Rattle.rule.specs.Rule.{entryOf}
 use Rattle.life.specs.Rows.{becomes, stepsTo}
-use Rattle.score_table.specs.Rows.{rowWorth, rowKept, widest, digitsOf, rowFor}
+use Rattle.board.proofs.Widths.{width-le}
+use Rattle.score_table.specs.Rows.{rowWorth, rowKept, digitsOf, rowFor}
 use Rattle.score_table.specs.ScoreTable.{readsFrom}
 use Rattle.score_table.specs.Inner.{columnOf, passes, skipTo}
 use Rattle.score_table.proofs.Columns.{becomes-same, column-lt, passes-is}
-use Rattle.score_table.proofs.WholeRows.{width-le, row-lt, rows-same}
+use Rattle.score_table.proofs.WholeRows.{row-lt, rows-same}
 use Rattle.score_table.proofs.Skipping.{skipped-same}
 use Rattle.score_table.proofs.Scanning.{offers, offer-apart, offer-barred, offer-absent, offer-sum, Held, held-none, held-pass, held-next, held-skip, found}
 use Rattle.score_table.specs.declared.Want.{Want}
@@ -98,7 +100,7 @@ is-number t = omega (arith, rows-at t .rows .inv .0, t .before .if1 .left)
 is-row : (t : Turn) (x : ℕ) → x < 2 ^ digitsOf (want-of t) (start t .args .w) → rowFor (want-of t) (start t .args .w) x < 2 ^ start t .args .w
 is-row t x l = row-lt (want-of t .halves) (start t .args .w) x l
 
-wide : (t : Turn) → start t .args .w ≤ widest
+wide : (t : Turn) → start t .args .w ≤ maxMirrorWidth
 wide t = width-le _ _ (start t .pre .0)
 
 -- the entry that the turn reads is within the table
@@ -159,11 +161,11 @@ sum c =
     ∙ ap (λ (x : ℕ). some (x + getD (g .table .now) (g .first + tried t) 0))
     (sym (c .row-worth .ensures .0 ∙ ap (rowWorth (g .w) (g .givens .now) (g .at)) (t .row-for3 .ensures .0)))
 
-digits-of-requires : tie.Need-digits-of-requires Inv-loop μ-loop Inv-rows μ-rows
-digits-of-requires c κs = search needs
+row-digits-requires : tie.Need-row-digits-requires Inv-loop μ-loop Inv-rows μ-rows
+row-digits-requires c κs = search needs
 
 row-codes-requires : tie.Need-row-codes-requires Inv-loop μ-loop Inv-rows μ-rows
-row-codes-requires c κs = rw (c .digits-of .ensures) (c .before .before .before .pre .0 .narrow)
+row-codes-requires c κs = rw (c .row-digits .ensures) (c .before .before .before .pre .0 .narrow)
 
 row-for-requires : tie.Need-row-for-requires Inv-loop μ-loop Inv-rows μ-rows
 row-for-requires c κs = let p = c .before .before .before .before .pre in (p .0, p .1)
@@ -179,7 +181,7 @@ columns-requires c κs =
 rows-holds : tie.Need-rows-holds Inv-loop μ-loop Inv-rows μ-rows
 rows-holds c =
     let k = c .before .before .before in
-    (rw (k .before .digits-of .ensures) at (k .row-codes .ensures .0), k .row-codes .ensures .1, search needs, held-none _ _ _ _ _ _ _ _ _)
+    (rw (k .before .row-digits .ensures) at (k .row-codes .ensures .0), k .row-codes .ensures .1, search needs, held-none _ _ _ _ _ _ _ _ _)
 
 row-for-requires-3 : tie.Need-row-for-requires-3 Inv-loop μ-loop Inv-rows μ-rows
 row-for-requires-3 c κs =
@@ -204,8 +206,8 @@ passes-requires c κs =
     (wide t, rw (column c) (column-lt (start t .args .w) _ _ (start t .args .t) (c .before .loop .j)), t .row-for3 .ensures .1, omega arith)
 
 -- the digits of a row's number
-digits : (t : Turn) → codes-at t .before .digits-of .result ≡ digitsOf (want-of t) (start t .args .w)
-digits t = codes-at t .before .digits-of .ensures
+digits : (t : Turn) → codes-at t .before .row-digits .result ≡ digitsOf (want-of t) (start t .args .w)
+digits t = codes-at t .before .row-digits .ensures
 
 next-row-requires : tie.Need-next-row-requires Inv-loop μ-loop Inv-rows μ-rows
 next-row-requires c κs =
@@ -313,7 +315,7 @@ best-row-spec =
     μ-loop
     Inv-rows
     μ-rows
-    digits-of-requires
+    row-digits-requires
     row-codes-requires
     row-for-requires
     row-for-requires-2

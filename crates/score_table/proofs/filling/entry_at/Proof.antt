@@ -8,20 +8,20 @@ use borrow.Author.Needs.{needs}
 use borrow.Author.Tests.{not-true, not-false}
 use lib.ListN.{length}
 use lib.Pow.{pow-pos}
-use Rattle.board.specs.Boards.{maxHeight}
+use Rattle.board.specs.Boards.{maxHeight, maxMirrorWidth}
 use Rattle.elimination.specs.Kind.{worthOf}
 use Rattle.rule.specs.Rule.{entryOf}
-use Rattle.score_table.specs.Rows.{widest, digitsOf}
+use Rattle.board.proofs.Widths.{width-le}
+use Rattle.score_table.specs.Rows.{digitsOf}
 use Rattle.score_table.specs.ScoreTable.{absent}
 use Rattle.score_table.specs.Inner.{choiceOf, entryOver}
 use Rattle.score_table.specs.declared.best.Best.{Best}
-use Rattle.score_table.proofs.WholeRows.{width-le}
 use Rattle.score_table.proofs.Entries.{row-room, layer-room, row-a-lt, row-b-lt, entry-apart, entry-open, entry-ends, entry-best}
 use Rattle.score_table.proofs.filling.entry_at.Statement.{statement}
 use Rattle.score_table.proofs.filling.entry_at.Tie as tie
 
 two : (d : tie.After-row-codes) → let g = d .before .before .before .before .args in d .row-codes .result ≡ 2 ^ digitsOf (g .want) (g .w)
-two d = rw (d .before .digits-of .ensures) at (d .row-codes .ensures .0)
+two d = rw (d .before .row-digits .ensures) at (d .row-codes .ensures .0)
 
 -- the entry's two numbers
 a-lt : (d : tie.After-row-codes) → let g = d .before .before .before .before .args in g .j / d .row-codes .result < 2 ^ digitsOf (g .want) (g .w)
@@ -30,7 +30,7 @@ a-lt d = row-a-lt _ _ _ (two d) (omega (arith, d .before .before .before .before
 b-lt : (d : tie.After-row-codes) → let g = d .before .before .before .before .args in g .j % d .row-codes .result < 2 ^ digitsOf (g .want) (g .w)
 b-lt d = row-b-lt _ _ _ (two d)
 
-wide : (d : tie.After-row-codes) → d .before .before .before .before .args .w ≤ widest
+wide : (d : tie.After-row-codes) → d .before .before .before .before .args .w ≤ maxMirrorWidth
 wide d = width-le _ _ (d .before .before .before .before .pre .0 .memory .width)
 
 -- where the layer below starts for row b
@@ -38,11 +38,11 @@ first-room : (d : tie.After-row-codes) → let g = d .before .before .before .be
     (g .k ≡ 0 → ⊥) → g .source + g .j % d .row-codes .result * d .row-codes .result + 2 ^ digitsOf (g .want) (g .w) ≤ length (g .table .now)
 first-room d n = layer-room _ _ _ _ _ (two d) (b-lt d) (d .before .before .before .before .pre .0 .layer n)
 
-digits-of-requires : tie.Need-digits-of-requires
-digits-of-requires c κs = search needs
+row-digits-requires : tie.Need-row-digits-requires
+row-digits-requires c κs = search needs
 
 row-codes-requires : tie.Need-row-codes-requires
-row-codes-requires c κs = rw (c .digits-of .ensures) (c .before .before .before .pre .0 .memory .width .narrow)
+row-codes-requires c κs = rw (c .row-digits .ensures) (c .before .before .before .pre .0 .memory .width .narrow)
 
 div-a : tie.Need-div-a
 div-a c = rw (two c) (pow-pos _)
@@ -145,7 +145,7 @@ pub entry-at-spec : {M : Type 1} → statement M
 entry-at-spec =
     tie.close
     (tie.spec
-    digits-of-requires
+    row-digits-requires
     row-codes-requires
     div-a
     rem-b

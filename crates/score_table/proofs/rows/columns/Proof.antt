@@ -8,13 +8,13 @@ use native.Mathlib.Omega.{arith}
 use borrow.Author.Needs.{needs}
 use lib.ListN.{length, getD, length-set}
 use lib.Seq.{getD-set-same, getD-set-other}
-use Rattle.score_table.specs.Rows.{widest}
+use Rattle.board.specs.Boards.{maxMirrorWidth}
 use Rattle.score_table.specs.Inner.{columnOf}
 use Rattle.score_table.proofs.rows.columns.Statement.{statement}
 use Rattle.score_table.proofs.rows.columns.Tie as tie
 
 abbrev Inv-loop : tie.InvT-loop
-Inv-loop w a b t r₀ j₀ j-end r j = (j-end ≡ w + 2) × (j ≤ j-end) × (length r ≡ widest + 2) × ((i : ℕ) → i < j → getD r i 0 ≡ columnOf w a b t i)
+Inv-loop w a b t r₀ j₀ j-end r j = (j-end ≡ w + 2) × (j ≤ j-end) × (length r ≡ maxMirrorWidth + 2) × ((i : ℕ) → i < j → getD r i 0 ≡ columnOf w a b t i)
 
 abbrev μ-loop : tie.MeasureT-loop
 μ-loop w a b t r₀ j₀ j-end r j = j-end - j

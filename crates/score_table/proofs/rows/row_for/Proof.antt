@@ -2,8 +2,9 @@
 -- Assumes nothing.
 use mathlib.Core.Path.{_≡_}
 use Prim.Native.Nat.{_<_, _^_}
+use Rattle.board.proofs.Widths.{width-le}
 use Rattle.score_table.specs.Rows.{rowFor}
-use Rattle.score_table.proofs.WholeRows.{width-le, row-lt}
+use Rattle.score_table.proofs.WholeRows.{row-lt}
 use Rattle.score_table.proofs.rows.row_for.Statement.{statement}
 use Rattle.score_table.proofs.rows.row_for.Tie as tie
 

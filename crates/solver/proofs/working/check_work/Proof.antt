@@ -23,7 +23,7 @@ job-at c = paused-numbers _ _ (sym (c .before .before .pause .ensures .says) ∙
 
 marks-at :
     (c : tie.After-enum-told2) → let a = c .before .before .before .before .before .before .before .before .before .args in
-    readCheck (a .job .rule) (a .job .width) (a .job .height) (a .givens .now) ≡ passed
+    readCheck (a .job .kind) (a .job .rule) (a .job .width) (a .job .height) (a .givens .now) ≡ passed
 marks-at c = let-through (c .before .before .check-read .ensures) (c .enum-told2 .given .1)
 
 board-at :
@@ -67,6 +67,9 @@ returns-3 c =
     let d = c .before .before in
     simp (job-at (d .before .before .before), marks-at d, sym (c .before .has-length .ensures) ∙ not-true _ (c .if1 .taken))
 
+row-digits-requires : tie.Need-row-digits-requires
+row-digits-requires c κs = search needs
+
 layers-requires : tie.Need-layers-requires
 layers-requires c κs = search needs
 
@@ -76,8 +79,13 @@ check-table-requires c κs = search needs
 returns-4 : tie.Need-returns-4
 unfolding workCheck lentCheck
 returns-4 c =
-    let d = c .before .before in
-    simp (job-at (d .before .before .before .before .before), marks-at (d .before .before), board-at d, rw (c .before .layers .ensures) at (c .check-table .ensures))
+    let d = c .before .before .before in
+    simp (
+      job-at (d .before .before .before .before .before),
+      marks-at (d .before .before),
+      board-at d,
+      rw (c .before .layers .ensures, c .before .before .row-digits .ensures) at (c .check-table .ensures),
+    )
 
 pub check-work-spec : {M : Type 1} → statement M
 check-work-spec =
@@ -93,6 +101,7 @@ check-work-spec =
     enum-told-2
     has-length-requires
     returns-3
+    row-digits-requires
     layers-requires
     check-table-requires
     returns-4)

@@ -8,7 +8,7 @@ use Rattle.board.proofs.Powers.{table-within, table-one}
 use Rattle.solver.proofs.working.entries_now.Statement.{statement}
 use Rattle.solver.proofs.working.entries_now.Tie as tie
 
-layer : (c : tie.After-table-size) → c .table-size .result ≡ 4 ^ c .before .args .w
+layer : (c : tie.After-table-size) → c .table-size .result ≡ 4 ^ c .before .args .digits
 layer c = c .table-size .ensures ∙ table-within (c .before .pre .0) (omega arith) ∙ table-one _
 
 table-size-requires : tie.Need-table-size-requires

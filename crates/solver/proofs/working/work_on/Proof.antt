@@ -7,7 +7,7 @@ use Prim.Native.Nat.{_+_, _^_, _≤_, _<_}
 use lib.ListN.{length}
 use native.Mathlib.Omega.{arith}
 use Rattle.rule.specs.Rule.{Holds, nextUnder}
-use Rattle.job.specs.Jobs.{taskOf}
+use Rattle.job.specs.Jobs.{halvesOf, kindDigits, taskOf}
 use Rattle.elimination.specs.Task.{fill}
 use Rattle.job.proofs.Next.{Due, due-at}
 use Rattle.service.specs.Service.{worksOn}
@@ -52,18 +52,27 @@ fills c = due-at _ _ (sym (c .before .before .before .task .ensures) ∙ ap task
 
 -- so many entries: the layer has them, the allowance has units for them, and there is one at least
 counted : (c : tie.After-entries-now Inv-loop μ-loop) →
-    let l = c .before .before .before .before .before .before .loop in
+    let l = c .before .before .before .before .before .before .before .loop in
     let m = c .entries-now .result in
-    (c .before .before .after .given .0 .1 .1 .1 .0 + m ≤ 4 ^ l .job .width) × (m ≤ l .left) × (0 < m)
+    (c .before .before .before .after .given .0 .1 .1 .1 .0 + m ≤ 4 ^ kindDigits (l .job .kind) (l .job .width)) × (m ≤ l .left) × (0 < m)
 counted c =
-    let t = c .before .before .before .before .before in
-    let D = fills (c .before) in
+    let t = c .before .before .before .before .before .before in
+    let D = fills (c .before .before) in
     let E = lent-entry (t .before .loop .inv .3) (D .running) (D .plans) .1 in
-    let e = c .entries-now .ensures in
+    let e = rw (c .before .row-digits .ensures) at (c .entries-now .ensures) in
     (omega (arith, e, E), omega (arith, e), omega (arith, e, E, t .loop-test .left))
 
+row-digits-requires : tie.Need-row-digits-requires Inv-loop μ-loop
+row-digits-requires c κs = search needs
+
 entries-now-requires : tie.Need-entries-now-requires Inv-loop μ-loop
-entries-now-requires c κs = let D = fills c in lent-entry (c .before .before .before .before .before .loop .inv .3) (D .running) (D .plans)
+entries-now-requires c κs =
+    let k = c .before in
+    let D = fills k in
+    rw (c .row-digits .ensures) (lent-entry (k .before .before .before .before .before .loop .inv .3) (D .running) (D .plans))
+
+halves-requires : tie.Need-halves-requires Inv-loop μ-loop
+halves-requires c κs = search needs
 
 most-live-requires : tie.Need-most-live-requires Inv-loop μ-loop
 most-live-requires c κs = search needs
@@ -75,21 +84,21 @@ after-entries-requires : tie.Need-after-entries-requires Inv-loop μ-loop
 after-entries-requires c κs = search needs
 
 sub-left : tie.Need-sub-left Inv-loop μ-loop
-sub-left c = counted (c .before .before .before .before .before .before .before) .1
+sub-left c = counted (c .before .before .before .before .before .before .before .before) .1
 
 loop-less : tie.Need-loop-less Inv-loop μ-loop
-loop-less c = let N = counted (c .before .before .before .before .before .before .before) in omega (arith, N .1, N .2)
+loop-less c = let N = counted (c .before .before .before .before .before .before .before .before) in omega (arith, N .1, N .2)
 
 loop-again : tie.Need-loop-again Inv-loop μ-loop
 loop-again c =
     let f = c .before .before .before in
-    let n = f .before .before .before .before in
-    let l = n .before .before .before .before .before .before .loop in
-    let D = fills (n .before) in
+    let n = f .before .before .before .before .before in
+    let l = n .before .before .before .before .before .before .before .loop in
+    let D = fills (n .before .before) in
     let N = counted n in
     let R = lent-read (l .inv .3) (D .running) (D .plans) _ (N .0) in
     let O = onward-filled _ _ _ _ (l .inv .3) (D .running) _ _ _ _ (D .plans) _ (N .0) _ (c .after-entries .ensures) _
-    (rw (f .before .before .before .most-live .ensures) at (f .fill .ensures) ∙ filled _ _ (l .inv .4) _ _ _ _ _ _ _ _ _ (R .0) (R .1)) _ (N .1) in (
+    (rw (f .before .before .before .most-live .ensures, f .before .before .before .before .halves .ensures) at (f .fill .ensures) ∙ filled _ _ (l .inv .4) (halvesOf (l .job .kind)) _ _ _ _ _ _ _ _ _ (R .0) (R .1)) _ (N .1) in (
       O .works ∙ l .inv .0,
       f .fill .kept .1 .1 .1 .1 .1 .1 .1 .1 .1 .1 .0 ∙ l .inv .1,
       l .inv .2,
@@ -174,7 +183,9 @@ work-on-spec =
     loop-holds
     task-requires
     enum-known-after
+    row-digits-requires
     entries-now-requires
+    halves-requires
     most-live-requires
     fill-requires
     after-entries-requires

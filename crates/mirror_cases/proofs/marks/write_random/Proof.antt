@@ -1,0 +1,61 @@
+-- `mirror_cases::marks::write_random` is safe and ends: the place rises to the number of the left halves' cells.
+-- Assumes nothing.
+use mathlib.Core.Path.{_≡_}
+use Prim.Native.Nat.{_-_, _≤_}
+use lib.ListN.{length}
+use borrow.Author.Needs.{needs}
+use Rattle.mirror_cases.proofs.marks.write_random.Statement.{statement}
+use Rattle.mirror_cases.proofs.marks.write_random.Tie as tie
+
+abbrev Inv-loop : tie.InvT-loop
+Inv-loop givens₀ s seed end most k₀ givens k = (k ≤ end) × (length givens ≡ length givens₀)
+
+abbrev μ-loop : tie.MeasureT-loop
+μ-loop givens₀ s seed end most k₀ givens k = end - k
+
+below-requires : tie.Need-below-requires Inv-loop μ-loop
+below-requires c κs = search needs
+
+loop-holds : tie.Need-loop-holds Inv-loop μ-loop
+loop-holds c = search needs
+
+wrapping-add-usize-requires : tie.Need-wrapping-add-usize-requires Inv-loop μ-loop
+wrapping-add-usize-requires c κs = search needs
+
+random-mark-requires : tie.Need-random-mark-requires Inv-loop μ-loop
+random-mark-requires c κs = search needs
+
+put-both-requires : tie.Need-put-both-requires Inv-loop μ-loop
+put-both-requires c κs = search needs
+
+add-k : tie.Need-add-k Inv-loop μ-loop
+add-k c = search needs
+
+loop-less : tie.Need-loop-less Inv-loop μ-loop
+loop-less c = search needs
+
+loop-again : tie.Need-loop-again Inv-loop μ-loop
+loop-again c = search needs
+
+same-length : tie.Need-same-length Inv-loop μ-loop
+same-length c = search needs
+
+returns : tie.Need-returns Inv-loop μ-loop
+returns c = search needs
+
+pub write-random-spec : {M : Type 1} → statement M
+write-random-spec =
+    tie.close
+    (tie.spec
+    Inv-loop
+    μ-loop
+    below-requires
+    loop-holds
+    wrapping-add-usize-requires
+    random-mark-requires
+    put-both-requires
+    add-k
+    loop-less
+    loop-again
+    same-length
+    returns)
