@@ -12,7 +12,7 @@ use lib.ListN.{length, getD}
 use Rattle.board.specs.Search.{firstNot}
 use Rattle.board.specs.Answers.{gives, passed, _then_, refuseUnless, Checked}
 use Rattle.board.specs.Boards.{among, maxHeight, widthFits, isWidth, Sized, SizedBy, Bytes, Board}
-use Rattle.board.specs.Checks.{lengthCheck, bytesCheck, heightCheck, sizeCheck, cellsCheck, givensCheck, boardCheck, atMost, ChecksRight}
+use Rattle.board.specs.Checks.{lengthCheck, bytesCheck, heightCheck, sizeCheck, cellsCheck, marksCheck, givensCheck, boardCheck, atMost, ChecksRight}
 use Rattle.board.proofs.Tests.{and-left, and-right, and-true, among-yes, among-in}
 use Rattle.board.proofs.Widths.{width-of, width-fits, size-by, by-size}
 use Rattle.board.proofs.Answers.{then-gives, unless-gives, at-gives, checked-then, checked-unless, checked-at}
@@ -84,19 +84,20 @@ pub board-passes : {w h : ℕ} {cells : List ℕ} → Board w h cells → boardC
 unfolding boardCheck
 board-passes {w} {h} {cells} b = rw (size-passes (b .size)) (cells-pass (b .bytes))
 
-pub marks-of : (w h : ℕ) (marks : List ℕ) {vs : List ℕ} → givensCheck w h marks ≡ gives vs → Bytes 2 w h marks
-unfolding givensCheck
-marks-of w h marks e = bytes-of 3 4 2 w h marks e
+module _ (most w h : ℕ) (marks : List ℕ) where
+  pub marks-of : {vs : List ℕ} → marksCheck most w h marks ≡ gives vs → Bytes most w h marks
+  unfolding marksCheck
+  marks-of e = bytes-of 3 4 most w h marks e
 
-marks-pass : {w h : ℕ} {marks : List ℕ} → Bytes 2 w h marks → givensCheck w h marks ≡ passed
-unfolding givensCheck
-marks-pass {w} {h} {marks} b = bytes-pass 3 4 2 w h marks b
+  pub marks-pass : Bytes most w h marks → marksCheck most w h marks ≡ passed
+  unfolding marksCheck
+  marks-pass b = bytes-pass 3 4 most w h marks b
 
-pub givens-checked : (n w h : ℕ) (marks : List ℕ) → (3 ≡ n → ⊥) → (4 ≡ n → ⊥) → Checked n (givensCheck w h marks)
-unfolding givensCheck
-givens-checked n w h marks p q =
-    checked-then n (lengthCheck 3 w h marks) (bytesCheck 4 2 marks) (checked-unless n (eqb (length marks) (w * h)) 3 p)
-    (checked-at n (firstNot (atMost 2 marks) (length marks)) 4 q)
+  pub marks-checked : (n : ℕ) → (3 ≡ n → ⊥) → (4 ≡ n → ⊥) → Checked n (marksCheck most w h marks)
+  unfolding marksCheck
+  marks-checked n p q =
+      checked-then n (lengthCheck 3 w h marks) (bytesCheck 4 most marks) (checked-unless n (eqb (length marks) (w * h)) 3 p)
+      (checked-at n (firstNot (atMost most marks) (length marks)) 4 q)
 
 pub checks-right : ChecksRight
 checks-right = (
@@ -104,7 +105,8 @@ checks-right = (
   λ halves w h. (sized-by halves w h, size-passes-by halves),
   λ w h cells. (boarded w h cells, board-passes),
   λ w h marks. (
-    λ e. let p = then-gives (sizeCheck false w h) (givensCheck w h marks) e in record { size = sized w h (p .0 .1); bytes = marks-of w h marks (p .1) },
-    λ g. rw (size-passes (g .size)) (marks-pass (g .bytes)),
+    λ e. let p = then-gives (sizeCheck false w h) (givensCheck w h marks) e in record { size = sized w h (p .0 .1); bytes = marks-of 2 w h marks (p .1) },
+    λ g. rw (size-passes (g .size)) (marks-pass 2 w h marks (g .bytes)),
   ),
+  λ w h target. (marks-of 1 w h target, marks-pass 1 w h target),
 )

@@ -1,4 +1,4 @@
--- Document 01, "Turned away": when a size, a board and a grid of givens are turned away, in the order of the checks.
+-- Document 01, "Turned away": when a size, a board, a grid of givens and a target are turned away, in the order of the checks.
 -- Assumes nothing.
 use mathlib.Core.Path.{_≡_}
 use mathlib.Core.Logic.{_↔_}
@@ -9,7 +9,7 @@ use lib.Dec.{eqb, leb}
 use lib.ListN.{length, getD}
 use Rattle.board.specs.Search.{firstNot}
 use Rattle.board.specs.Answers.{Answer, _then_, passed, refuseUnless, refuseAt}
-use Rattle.board.specs.Boards.{among, maxWidth, maxHeight, isWidth, Sized, SizedBy, Board, Givens}
+use Rattle.board.specs.Boards.{among, maxWidth, maxHeight, isWidth, Sized, SizedBy, Bytes, Board, Givens}
 
 -- 1, Width: w is 0 or above 10
 abbrev pub widthCheck : ℕ → Answer
@@ -19,7 +19,7 @@ widthCheck w = refuseUnless (among maxWidth w) 1
 abbrev pub heightCheck : ℕ → Answer
 heightCheck h = refuseUnless (among maxHeight h) 2
 
--- 3 for givens, 5 for a board: not w × h long
+-- 3 for givens and for a target, 5 for a board: not w × h long
 abbrev pub lengthCheck : ℕ → ℕ → ℕ → List ℕ → Answer
 lengthCheck n w h bytes = refuseUnless (eqb (length bytes) (w * h)) n
 
@@ -27,7 +27,7 @@ lengthCheck n w h bytes = refuseUnless (eqb (length bytes) (w * h)) n
 abbrev pub atMost : ℕ → List ℕ → ℕ → Bool
 atMost most bytes place = leb (getD bytes place 0) most
 
--- 4, Mark: a given not 0, 1 or 2; 11, Cell: a board byte not 0 or 1; with its first place from 0
+-- 4, Mark: a given not 0, 1 or 2, or a target byte not 0 or 1; 11, Cell: a board byte not 0 or 1; with its first place from 0
 abbrev pub bytesCheck : ℕ → ℕ → List ℕ → Answer
 bytesCheck n most bytes = refuseAt (firstNot (atMost most bytes) (length bytes)) n
 
@@ -51,18 +51,27 @@ sizeCheck halves w h = refuseUnless (isWidth halves w) 1 then heightCheck h
 unfoldable pub cellsCheck : ℕ → ℕ → List ℕ → Answer
 cellsCheck w h cells = lengthCheck 5 w h cells then bytesCheck 11 1 cells
 
--- 3, 4
-unfoldable pub givensCheck : ℕ → ℕ → List ℕ → Answer
-givensCheck w h marks = lengthCheck 3 w h marks then bytesCheck 4 2 marks
+-- 3, 4: w × h marks, each at most a limit
+unfoldable pub marksCheck : ℕ → ℕ → ℕ → List ℕ → Answer
+marksCheck most w h marks = lengthCheck 3 w h marks then bytesCheck 4 most marks
+
+-- of givens: 0, 1 or 2
+abbrev pub givensCheck : ℕ → ℕ → List ℕ → Answer
+givensCheck w h marks = marksCheck 2 w h marks
+
+-- Req 08, of a target: 0 or 1
+abbrev pub targetCheck : ℕ → ℕ → List ℕ → Answer
+targetCheck w h target = marksCheck 1 w h target
 
 -- text out begins with 1, 2, 5, 11
 unfoldable pub boardCheck : ℕ → ℕ → List ℕ → Answer
 boardCheck w h cells = sizeCheck false w h then cellsCheck w h cells
 
--- the checks turn away exactly what is no size, no board, no grid of givens
+-- the checks turn away exactly what is no size, no board, no grid of givens, no target
 abbrev pub ChecksRight : Type 0
 ChecksRight =
     ((w h : ℕ) → sizeCheck false w h ≡ passed ↔ Sized w h) ×
     ((halves : Bool) (w h : ℕ) → sizeCheck halves w h ≡ passed ↔ SizedBy halves w h) ×
     ((w h : ℕ) (cells : List ℕ) → boardCheck w h cells ≡ passed ↔ Board w h cells) ×
-    ((w h : ℕ) (marks : List ℕ) → (sizeCheck false w h then givensCheck w h marks) ≡ passed ↔ Givens w h marks)
+    ((w h : ℕ) (marks : List ℕ) → (sizeCheck false w h then givensCheck w h marks) ≡ passed ↔ Givens w h marks) ×
+    ((w h : ℕ) (target : List ℕ) → targetCheck w h target ≡ passed ↔ Bytes 1 w h target)

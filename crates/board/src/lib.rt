@@ -1,11 +1,11 @@
-// What every call on a board shares: the refusals, and the checks of a size, a board, a grid of givens and a table.
+// What every call on a board shares: the refusals, and the checks of a size, a board, a grid of givens, a target and a table.
 ghost use mathlib.Core.Path.{_≡_};
 ghost use Prim.Native.Nat.{_*_};
 ghost use lib.Dec.{eqb};
 ghost use lib.ListN.{length};
 ghost use Rattle.board.specs.Answers.{numberOf, checkSays, placeOf};
 ghost use Rattle.board.specs.Boards.{among, rowDigits, widthFits, byteAt};
-ghost use Rattle.board.specs.Checks.{widthCheck, heightCheck, sizeCheck, cellsCheck, boardCheck, givensCheck, atMost, tableSizeWithin, tableCheck};
+ghost use Rattle.board.specs.Checks.{widthCheck, heightCheck, sizeCheck, cellsCheck, boardCheck, marksCheck, givensCheck, targetCheck, atMost, tableSizeWithin, tableCheck};
 ghost use Rattle.board.specs.Search.{firstNot};
 
 // Why a call is turned away, in the order of the documents' numbers, with the first wrong place where they give one.
@@ -148,10 +148,24 @@ pub fn check_board(w: usize, h: usize, cells: &[u8]) -> Check
 pub fn check_givens(w: usize, h: usize, givens: &[u8]) -> Check
     ensures { λ r. ⌜ checkSays r ≡ givensCheck w h (now (givens .entry)) ⌝ }
 {
-    if !has_length(givens, w, h) {
+    check_marks(2, w, h, givens)
+}
+
+// 3, 4 of a target, which is lent in the givens' place: w × h bytes, each 0 or 1.
+pub fn check_target(w: usize, h: usize, target: &[u8]) -> Check
+    ensures { λ r. ⌜ checkSays r ≡ targetCheck w h (now (target .entry)) ⌝ }
+{
+    check_marks(1, w, h, target)
+}
+
+// 3, 4: w × h marks, each at most a limit.
+fn check_marks(most: u8, w: usize, h: usize, marks: &[u8]) -> Check
+    ensures { λ r. ⌜ checkSays r ≡ marksCheck most w h (now (marks .entry)) ⌝ }
+{
+    if !has_length(marks, w, h) {
         return Check::Refused(Refusal::GivensLength);
     }
-    match first_above(givens, 2) {
+    match first_above(marks, most) {
         Place::At(i) => Check::Refused(Refusal::Mark(i)),
         Place::Nowhere => Check::Passed,
     }

@@ -92,5 +92,5 @@ module _ (want : Want) (next : ℕ → ℕ) (w h : ℕ) (givens : List ℕ) (k a
       ∙ sym (entry-more G k a b read ∙ ap (worthOf absent) (choose-scan G k a b read))
 
 pub greatest-is-entry : GreatestIsEntry
-greatest-is-entry want next w h givens k a b read most digits =
-    entry-greatest want next w h givens k a b read most ∙ ap (λ (u : Want). entry (kindFor u next w h givens) (suc k) a b read) (plain-is want digits)
+greatest-is-entry want next w h givens k a b read most digits stays =
+    entry-greatest want next w h givens k a b read most ∙ ap (λ (u : Want). entry (kindFor u next w h givens) (suc k) a b read) (plain-is want digits stays)

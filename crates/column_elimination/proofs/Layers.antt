@@ -50,12 +50,12 @@ start-most limit w gains read fits h x =
     ]
 
 -- ---- an entry
-pub entry-by : (want : Want) (next : ℕ → ℕ) (w h : ℕ) (givens : List ℕ) (k a b : ℕ) (gains : ℕ → ℕ) (table : List ℕ) (below : ℕ) → want .least ≡ false → want .halves ≡ false
-    → a < 2 ^ w → b < 2 ^ w → ((c : ℕ) → c < 2 ^ w → gains c ≡ rowGain w givens ((h - suc k) * w) c)
+pub entry-by : (want : Want) (next : ℕ → ℕ) (w h : ℕ) (givens : List ℕ) (k a b : ℕ) (gains : ℕ → ℕ) (table : List ℕ) (below : ℕ)
+    → want .least ≡ false → want .halves ≡ false → want .predecessor ≡ false → a < 2 ^ w → b < 2 ^ w → ((c : ℕ) → c < 2 ^ w → gains c ≡ rowGain w givens ((h - suc k) * w) c)
     → entryBy (want .limit) next w gains table below a b
     ≡ entry (kindFor want next w h givens) (suc k) a b (reads (kindFor want next w h givens) table below b)
 unfolding entryBy startNumber reads
-entry-by want next w h givens k a b gains table below most digits la lb same =
+entry-by want next w h givens k a b gains table below most digits stays la lb same =
     let limit = want .limit in
     let read : ℕ → ℕ = λ c. getD table (below + b * 2 ^ w + c) 0 in
     let wanted : ℕ → ℕ = reads (kindFor want next w h givens) table below b in
@@ -65,7 +65,7 @@ entry-by want next w h givens k a b gains table below most digits la lb same =
     ∙ greatest-same (λ c. keepIf (agree next w a b c) (startNumber limit w gains read c))
     (λ c. keepIf (agree next w a b c) (startNumber limit w (rowGain w givens ((h - suc k) * w)) wanted c)) (2 ^ w)
     (λ c l. ap (keepIf (agree next w a b c)) (rw (same c l, digits, place c))))
-    ∙ greatest-is-entry want next w h givens k a b wanted most digits
+    ∙ greatest-is-entry want next w h givens k a b wanted most digits stays
 
 -- ---- the last two columns
 pub ended-spread : (next : ℕ → ℕ) (keep : List ℕ) → Keeps next keep → (w b out : ℕ) (vector last : List ℕ) {table new : List ℕ}

@@ -67,10 +67,11 @@ startNumber limit w gains read x = cond (ltb x (2 ^ w)) (scored limit (gains x) 
 unfoldable pub entryIn : ℕ → ℕ
 entryIn v = cond (eqb v 0) absent (v - 1)
 
--- THE THEOREM of the entry: where the greatest sum is wanted and a row's cells are its number's digits, the greatest number of the rows that agree is
--- the rule's entry
+-- THE THEOREM of the entry: where the greatest sum is wanted, a row's cells are its number's digits and rows stay as they are, the greatest number of
+-- the rows that agree is the rule's entry
 abbrev pub GreatestIsEntry : Type 0
-GreatestIsEntry = (want : Want) (next : ℕ → ℕ) (w h : ℕ) (givens : List ℕ) (k a b : ℕ) (read : ℕ → ℕ) → want .least ≡ false → want .halves ≡ false
+GreatestIsEntry = (want : Want) (next : ℕ → ℕ) (w h : ℕ) (givens : List ℕ) (k a b : ℕ) (read : ℕ → ℕ)
+    → want .least ≡ false → want .halves ≡ false → want .predecessor ≡ false
     → entryIn (greatest (λ c. keepIf (agree next w a b c) (startNumber (want .limit) w (rowGain w givens ((h - suc k) * w)) read c)) (2 ^ w))
     ≡ entry (kindFor want next w h givens) (suc k) a b read
 

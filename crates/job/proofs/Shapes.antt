@@ -34,12 +34,14 @@ use Rattle.job.specs.declared.shape.Round.{Round}
 abbrev kindAt : ℕ → Kind
 kindAt zero = Kind.Ordinary
 kindAt (suc zero) = Kind.TwoLayers
-kindAt (suc (suc n)) = Kind.Mirror
+kindAt (suc (suc zero)) = Kind.Mirror
+kindAt (suc (suc (suc n))) = Kind.Predecessor
 
 kind-at : (kind : Kind) → kindAt (kindNumber kind) ≡ kind
 kind-at Kind.Ordinary = refl
 kind-at Kind.TwoLayers = refl
 kind-at Kind.Mirror = refl
+kind-at Kind.Predecessor = refl
 
 pub number-tells : (kind kind′ : Kind) → kindNumber kind ≡ kindNumber kind′ → kind ≡ kind′
 number-tells kind kind′ e = sym (kind-at kind) ∙ ap kindAt e ∙ kind-at kind′

@@ -1,5 +1,6 @@
--- Document 01, "A job and its units", Req 02, Req 05 and Req 06: a job, its ten numbers, which of them fit, the rules of opening, pausing and resuming,
--- and the job after a unit. `Checkpoint` is the paper's seven numbers, the two of the rule and that of the kind, and the stage `Infeasible` its none.
+-- Document 01, "A job and its units", Req 02, Req 05, Req 06 and Req 08: a job, its ten numbers, which of them fit, the rules of opening, pausing and
+-- resuming, and the job after a unit. `Checkpoint` is the paper's seven numbers, the two of the rule and that of the kind, and the stage `Infeasible` its
+-- none.
 -- Assumes nothing.
 use mathlib.Core.Bool.{Bool, true, false, cond, not, _&&_}
 use mathlib.Core.List.{List, [], _∷_}
@@ -8,7 +9,7 @@ use Prim.Native.Nat.{ℕ, zero, suc, _+_, _*_, _-_, _/_, _^_}
 use lib.Dec.{eqb, leb, ltb}
 use Rattle.board.specs.Answers.{Answer, gives, passed, refusalSays, _then_, refuseUnless}
 use Rattle.board.specs.Boards.{among, maxHeight, rowDigits, widthFits, isWidth}
-use Rattle.board.specs.Checks.{givensCheck, tableSize}
+use Rattle.board.specs.Checks.{givensCheck, targetCheck, tableSize}
 use Rattle.board.specs.Search.{allBelow}
 use Rattle.edges.specs.Edges.{edgeCheck}
 use Rattle.mirror.specs.Mirror.{lopsidedCheck}
@@ -30,23 +31,33 @@ use Rattle.job.specs.declared.Chosen.{Chosen}
 use Rattle.job.specs.declared.Task as Task
 
 -- ---- kinds of job
--- the kind's number: ordinary 0, two layers only 1, mirror boards 2
+-- the kind's number: ordinary 0, two layers only 1, mirror boards 2, predecessors of a target 3
 abbrev pub kindNumber : Kind → ℕ
 kindNumber Kind.Ordinary = 0
 kindNumber Kind.TwoLayers = 1
 kindNumber Kind.Mirror = 2
+kindNumber Kind.Predecessor = 3
 
 -- a row is held as its left half
 abbrev pub halvesOf : Kind → Bool
 halvesOf Kind.Ordinary = false
 halvesOf Kind.TwoLayers = false
 halvesOf Kind.Mirror = true
+halvesOf Kind.Predecessor = false
 
 -- the table holds two layers, which are filled again before each row
 abbrev pub refills : Kind → Bool
 refills Kind.Ordinary = false
 refills Kind.TwoLayers = true
 refills Kind.Mirror = false
+refills Kind.Predecessor = false
+
+-- a target is lent in the givens' place: the boards that are one step before it are sought, and the fewest live cells are wanted
+abbrev pub hasTarget : Kind → Bool
+hasTarget Kind.Ordinary = false
+hasTarget Kind.TwoLayers = false
+hasTarget Kind.Mirror = false
+hasTarget Kind.Predecessor = true
 
 -- the binary digits of a row's number: w, or w ÷ 2 where a row is held as its left half; they stand for w in every power
 abbrev pub kindDigits : Kind → ℕ → ℕ
@@ -56,7 +67,8 @@ kindDigits kind w = rowDigits (halvesOf kind) w
 abbrev pub layersOf : Kind → ℕ → ℕ
 layersOf kind h = cond (refills kind) 2 h
 
--- a job's length where a still board that keeps the givens exists, in a mirror job such a mirror board, and where none does
+-- a job's length where a still board that keeps the givens exists, in a mirror job such a mirror board, with a target a board that steps to it; and
+-- where none does
 abbrev pub boardLength : Kind → ℕ → ℕ → ℕ
 boardLength kind w h = cond (refills kind) (h * (h + 1) / 2 * 4 ^ kindDigits kind w + h) (h * (4 ^ kindDigits kind w + 1))
 
@@ -196,9 +208,10 @@ jobOf kind t = record { kind = kind; rule = ruleOf t; width = t .width; height =
 abbrev pub mirrorCheck : Kind → ℕ → ℕ → List ℕ → Answer
 mirrorCheck kind w h givens = cond (halvesOf kind) (lopsidedCheck w h givens) passed
 
--- the checks of what is lent to be read, as opening and working make them: 3, 4, 14, 15
+-- the checks of what is lent to be read, as opening and working make them: 3, 4 of a target; 3, 4, 14, 15 of givens
 unfoldable pub readCheck : Kind → Rule → ℕ → ℕ → List ℕ → Answer
-readCheck kind rule w h givens = givensCheck w h givens then edgeCheck rule w h givens then mirrorCheck kind w h givens
+readCheck kind rule w h givens =
+    cond (hasTarget kind) (targetCheck w h givens) (givensCheck w h givens then edgeCheck rule w h givens then mirrorCheck kind w h givens)
 
 -- opening: 1, 2, 13 by how the kind holds rows, then those
 unfoldable pub openRule : Kind → Rule → ℕ → ℕ → List ℕ → Answer

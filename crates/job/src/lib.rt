@@ -10,7 +10,7 @@ mod units;
 
 ghost use mathlib.Core.Path.{_≡_};
 ghost use Rattle.board.specs.Answers.{checkSays};
-ghost use Rattle.job.specs.Jobs.{kindNumber, halvesOf, refills, kindDigits, layersOf, readCheck, numbersOf, taskDue, taskOf, afterUnit, afterFills};
+ghost use Rattle.job.specs.Jobs.{kindNumber, halvesOf, refills, hasTarget, kindDigits, layersOf, readCheck, numbersOf, taskDue, taskOf, afterUnit, afterFills};
 ghost use Rattle.job.specs.Calls.{Opens, Pauses, Resumes};
 
 // The kinds of job. The first two come to the same board; they differ in the table that they take, and in their length.
@@ -21,9 +21,11 @@ pub enum Kind {
     TwoLayers,
     // Mirror boards alone, of even widths up to 20: a row is held as its left half. The whole table is filled, as for an ordinary job.
     Mirror,
+    // The boards whose next step is a target, which is lent in the givens' place, with the fewest live cells. The table is an ordinary job's.
+    Predecessor,
 }
 
-// What a job does next, with that stage's numbers: the last two rows chosen, and the live cells so far that were free.
+// What a job does next, with that stage's numbers: the last two rows chosen, and the live cells so far that were free, with a target all live cells.
 pub enum Stage {
     Filling {
         above: usize,
@@ -40,7 +42,7 @@ pub enum Stage {
         last: usize,
         score: usize,
     },
-    // No still board keeps the givens, in a mirror job no mirror board.
+    // No still board keeps the givens, in a mirror job no mirror board; or no board steps to the target.
     Infeasible,
 }
 
@@ -103,8 +105,8 @@ pub enum Chosen {
     Nothing,
 }
 
-// A job of a kind at unit 0 under a rule for a grid of givens: w × h marks, 0 free, 1 given dead, 2 given live. Refusals 1, 2, 13, 3, 4,
-// 14, 15.
+// A job of a kind at unit 0 under a rule for a grid of givens: w × h marks, 0 free, 1 given dead, 2 given live; or for a target in their place: w × h
+// cells, 0 dead, 1 live. Refusals 1, 2, 13, 3, 4, 14, 15; of a target 1, 2, 13, 3, 4.
 pub fn open(kind: Kind, rule: Rule, width: usize, height: usize, givens: &[u8]) -> JobResult
     ensures { λ r. ⌜ Opens kind rule width height (now (givens .entry)) r ⌝ }
 {
@@ -128,10 +130,14 @@ pub fn open(kind: Kind, rule: Rule, width: usize, height: usize, givens: &[u8]) 
     })
 }
 
-// The checks of what is lent to be read, by opening and by working: 3, 4, 14, and 15 where rows are held as their left halves.
+// The checks of what is lent to be read, by opening and by working: of a target 3, 4; of givens 3, 4, 14, and 15 where rows are held as their left
+// halves.
 pub fn check_read(kind: Kind, rule: Rule, width: usize, height: usize, givens: &[u8]) -> Check
     ensures { λ r. ⌜ checkSays r ≡ readCheck kind rule width height (now (givens .entry)) ⌝ }
 {
+    if kind.has_target() {
+        return board::check_target(width, height, givens);
+    }
     if let Check::Refused(r) = board::check_givens(width, height, givens) {
         return Check::Refused(r);
     }
@@ -153,6 +159,7 @@ impl Kind {
             Kind::Ordinary => 0,
             Kind::TwoLayers => 1,
             Kind::Mirror => 2,
+            Kind::Predecessor => 3,
         }
     }
 
@@ -164,6 +171,7 @@ impl Kind {
             Kind::Ordinary => false,
             Kind::TwoLayers => false,
             Kind::Mirror => true,
+            Kind::Predecessor => false,
         }
     }
 
@@ -175,6 +183,19 @@ impl Kind {
             Kind::Ordinary => false,
             Kind::TwoLayers => true,
             Kind::Mirror => false,
+            Kind::Predecessor => false,
+        }
+    }
+
+    // Whether a target is lent in the givens' place.
+    pub fn has_target(self) -> bool
+        ensures { λ r. ⌜ r ≡ hasTarget self ⌝ }
+    {
+        match self {
+            Kind::Ordinary => false,
+            Kind::TwoLayers => false,
+            Kind::Mirror => false,
+            Kind::Predecessor => true,
         }
     }
 

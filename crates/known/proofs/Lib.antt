@@ -1,2 +1,3 @@
 -- The known boards, proved.
+pub mod Predecessors
 pub mod Boards

@@ -162,13 +162,13 @@ layer-done want next w h (suc k) source target gains givens table L apart {new} 
           let lb : b < 2 ^ w = mod-lt j (pow-pos w) in
           let d : a * 2 ^ w + b ≡ j = div-add-mod' j (2 ^ w) in
           let p : target + a * 2 ^ w + b ≡ target + j = omega arith in
-          let x = S .inside a b la lb ∙ entry-by (plain want) next w h givens k a b gains table source (L .suits .greatest) refl la lb same in
+          let x = S .inside a b la lb ∙ entry-by (plain want) next w h givens k a b gains table source (L .suits .greatest) refl refl la lb same in
           rw p at x;
       before = S .before;
       after = S .after;
     } in
     rw q (layer-is-entries G (suc k) source target table new apart (omega (arith, L .writes, q)) F)
-    ∙ ap (λ (u : Want). fillEntries (kindFor u next w h givens) (suc k) source target 0 (4 ^ w) table) (plain-is want (L .suits .digits))
+    ∙ ap (λ (u : Want). fillEntries (kindFor u next w h givens) (suc k) source target 0 (4 ^ w) table) (plain-is want (L .suits .digits) (L .suits .stays))
 
 -- ---- which layers are filled at once, as the code tests it
 module _ (want : Want) (w k source target count : ℕ) where
@@ -182,23 +182,28 @@ module _ (want : Want) (w k source target count : ℕ) where
     once-halves f = rw (e, f)
 
     module _ (f : want .halves ≡ false) where
-      pub once-narrow : w < narrowest → false ≡ atOnce want w k source target count
+      pub once-target : want .predecessor ≡ true → false ≡ atOnce want w k source target count
       unfolding atOnce
-      once-narrow l = rw (e, f, lt-leb narrowest w l)
+      once-target t = rw (e, f, t)
 
-      module _ (l : narrowest ≤ w) where
-        pub once-last : k ≡ 0 → false ≡ atOnce want w k source target count
+      module _ (t : want .predecessor ≡ false) where
+        pub once-narrow : w < narrowest → false ≡ atOnce want w k source target count
         unfolding atOnce
-        once-last z = rw (e, f, le-leb narrowest w l, eq-eqb k 0 z)
+        once-narrow l = rw (e, f, t, lt-leb narrowest w l)
 
-        module _ (z : k ≡ 0 → ⊥) where
-          pub once-part : (count ≡ 4 ^ w → ⊥) → false ≡ atOnce want w k source target count
+        module _ (l : narrowest ≤ w) where
+          pub once-last : k ≡ 0 → false ≡ atOnce want w k source target count
           unfolding atOnce
-          once-part n = rw (e, f, le-leb narrowest w l, ne-eqb k 0 z, ne-eqb count (4 ^ w) n)
+          once-last z = rw (e, f, t, le-leb narrowest w l, eq-eqb k 0 z)
 
-          pub once-apart : count ≡ 4 ^ w → areApart source target (4 ^ w) ≡ atOnce want w k source target count
-          unfolding atOnce
-          once-apart c = rw (e, f, le-leb narrowest w l, ne-eqb k 0 z, eq-eqb count (4 ^ w) c)
+          module _ (z : k ≡ 0 → ⊥) where
+            pub once-part : (count ≡ 4 ^ w → ⊥) → false ≡ atOnce want w k source target count
+            unfolding atOnce
+            once-part n = rw (e, f, t, le-leb narrowest w l, ne-eqb k 0 z, ne-eqb count (4 ^ w) n)
+
+            pub once-apart : count ≡ 4 ^ w → areApart source target (4 ^ w) ≡ atOnce want w k source target count
+            unfolding atOnce
+            once-apart c = rw (e, f, t, le-leb narrowest w l, ne-eqb k 0 z, eq-eqb count (4 ^ w) c)
 
 apart-are : (source target q : ℕ) → areApart source target q ≡ true → Apart q source target
 apart-are source target q e =
@@ -215,20 +220,23 @@ unfolding atOnce
 once-suits want w k source target count e =
     let a = not (want .least) in
     let f = not (want .halves) in
+    let t = not (want .predecessor) in
     let b = leb narrowest w in
     let c = not (eqb k 0) in
     let d = eqb count (4 ^ w) in
     let x = areApart source target (4 ^ w) in
-    let p4 = and-left (a && f && b && c && d) x e in
-    let p3 = and-left (a && f && b && c) d p4 in
-    let p2 = and-left (a && f && b) c p3 in
-    let p1 = and-left (a && f) b p2 in record {
+    let p5 = and-left (a && f && t && b && c && d) x e in
+    let p4 = and-left (a && f && t && b && c) d p5 in
+    let p3 = and-left (a && f && t && b) c p4 in
+    let p2 = and-left (a && f && t) b p3 in
+    let p1 = and-left (a && f) t p2 in record {
       greatest = not-true (want .least) (and-left a f p1);
       digits = not-true (want .halves) (and-right a f p1);
-      wide = leb-true narrowest w (and-right (a && f) b p2);
-      above = some k (eqb-false k 0 (not-true (eqb k 0) (and-right (a && f && b) c p3)));
-      whole = eqb-true count (4 ^ w) (and-right (a && f && b && c) d p4);
-      apart = apart-are source target (4 ^ w) (and-right (a && f && b && c && d) x e);
+      stays = not-true (want .predecessor) (and-right (a && f) t p2);
+      wide = leb-true narrowest w (and-right (a && f && t) b p3);
+      above = some k (eqb-false k 0 (not-true (eqb k 0) (and-right (a && f && t && b) c p4)));
+      whole = eqb-true count (4 ^ w) (and-right (a && f && t && b && c) d p5);
+      apart = apart-are source target (4 ^ w) (and-right (a && f && t && b && c && d) x e);
     }
   where
     some : (n : ℕ) → (n ≡ 0 → ⊥) → 0 < n
@@ -242,11 +250,11 @@ module _ (want : Want) (w h k source target from count : ℕ) (givens table : Li
   read : EntriesRead (plain want) w h k source from count givens table × (want .limit + w < absent) × (target + 4 ^ w ≤ length table)
   read =
       fits-read (plain want) w h givens k source target from count table
-      (subst (λ (u : Want). fillFits u w h k source target from count givens (length table) ≡ true) (sym (plain-is want (S .digits))) fits)
+      (subst (λ (u : Want). fillFits u w h k source target from count givens (length table) ≡ true) (sym (plain-is want (S .digits) (S .stays))) fits)
 
   pub layer-lent : LayerLent want w h k source target givens table
   layer-lent = record {
-    suits = record { greatest = S .greatest; digits = S .digits; wide = S .wide; above = S .above; whole = refl; apart = S .apart };
+    suits = record { greatest = S .greatest; digits = S .digits; stays = S .stays; wide = S .wide; above = S .above; whole = refl; apart = S .apart };
     memory = read .0 .memory;
     after = read .0 .after;
     small = read .1;

@@ -20,15 +20,16 @@ abbrev pub areApart : ℕ → ℕ → ℕ → Bool
 areApart source target q = cond (ltb source target) (leb q (target - source)) (leb q (source - target))
 
 -- so many entries are a whole layer that is filled at once: one above the last, wide enough, apart from the layer that it reads, the greatest sums
--- are wanted, and a row's cells are its number's digits
+-- are wanted, a row's cells are its number's digits, and rows stay as they are
 unfoldable pub atOnce : Want → ℕ → ℕ → ℕ → ℕ → ℕ → Bool
 atOnce want w k source target count =
-    not (want .least) && not (want .halves) && leb narrowest w && not (eqb k 0) && eqb count (4 ^ w) && areApart source target (4 ^ w)
+    not (want .least) && not (want .halves) && not (want .predecessor) && leb narrowest w && not (eqb k 0) && eqb count (4 ^ w) && areApart source target (4 ^ w)
 
 -- what that says
 pub record Suits (want : Want) (w k source target count : ℕ) : Type 0 where
   pub greatest : want .least ≡ false
   pub digits : want .halves ≡ false
+  pub stays : want .predecessor ≡ false
   pub wide : narrowest ≤ w
   pub above : 0 < k
   pub whole : count ≡ 4 ^ w

@@ -55,7 +55,7 @@ pub fn fill(
 }
 
 // Whether so many entries are a whole layer that is filled at once: one above the last, apart from the layer that it reads, the greatest sums are
-// wanted, and a row's cells are its number's digits.
+// wanted, a row's cells are its number's digits, and rows stay as they are.
 fn by_columns(
     want: Want,
     w: usize,
@@ -71,6 +71,9 @@ fn by_columns(
         return false;
     }
     if want.halves {
+        return false;
+    }
+    if want.predecessor {
         return false;
     }
     if w < NARROWEST {

@@ -18,9 +18,11 @@ pub enum Group {
     Narrow,
     Parts,
     Refused,
-    // Rows held as their left halves, widths 2 to 8, by rules alone.
+    // Rows held as their left halves, widths 2 to 8, by rules alone; the same with a target in the givens' place; and rows of 1 to 5 cells with a target.
     Halves,
     HalvesRefused,
+    TargetHalves,
+    Targets,
 }
 
 pub struct Call {
@@ -44,7 +46,9 @@ pub fn patterns(group: Group, seed: usize) -> [u8; 512] {
         Group::Conway => rule::table::conway(),
         Group::Rules => memory::rules_of(seed),
         Group::Bytes => memory::bytes_of(seed),
-        Group::Halves => rule::table::of(memory::halves_rule(seed)),
+        Group::Halves | Group::TargetHalves | Group::Targets => {
+            rule::table::of(memory::plain_rule(seed))
+        }
         _ => match seed % 3 {
             0 => rule::table::conway(),
             1 => memory::rules_of(seed),
@@ -67,8 +71,10 @@ pub fn of_group(group: Group, seed: usize) -> Call {
         Group::Narrow => whole(x % 3, any % 20, seed),
         Group::Parts => part(whole(w, either, seed), q, x),
         Group::Refused => refused(call, q, x),
-        Group::Halves => halves(1 + seed % 4, seed),
-        Group::HalvesRefused => unfit(halves(1 + seed % 4, seed), x),
+        Group::Halves => searched(true, false, seed),
+        Group::HalvesRefused => unfit(searched(true, false, seed), x),
+        Group::TargetHalves => searched(true, true, seed),
+        Group::Targets => searched(false, true, seed),
         _ => call,
     }
 }
@@ -82,7 +88,7 @@ pub fn whole(w: usize, apart: usize, seed: usize) -> Call {
     let down = random::below(2, seed, 3) == 0;
     let end = num::wrapping_add_usize(second, q);
     Call {
-        want: score_table::most_live(false),
+        want: score_table::want_of(false, false),
         w,
         h,
         after: 1 + random::below(h - 1, seed, 4) % 60,
@@ -157,26 +163,44 @@ fn wanting(call: Call, x: usize) -> Call {
             _ => 600,
         },
         halves: call.want.halves,
+        predecessor: call.want.predecessor,
     };
     let mut c = call;
     c.want = want;
     c
 }
 
-// A whole layer of rows that are held as their left halves, of so many cells, by any want; of some calls the last layer.
-pub fn halves(half: usize, seed: usize) -> Call {
+// A whole layer to be compared with the plain search, by any want; of some calls the last layer, and with a target of some the first.
+pub fn searched(halves: bool, target: bool, seed: usize) -> Call {
     let x = seed / 5;
-    let apart = num::wrapping_add_usize(board::table_size(half, 1), x % 3);
-    let w = num::wrapping_add_usize(half, half);
-    let mut c = whole(half, apart, seed);
-    c.w = w;
-    c.cells = cells(w, c.h);
-    c.want.halves = true;
+    let bits = if halves { 1 + seed % 4 } else { 1 + seed % 5 };
+    let apart = num::wrapping_add_usize(board::table_size(bits, 1), x % 3);
+    let twice = num::wrapping_add_usize(bits, bits);
+    let mut c = whole(bits, apart, seed);
+    c.w = if halves { twice } else { bits };
+    c.cells = cells(c.w, c.h);
+    c.want.halves = halves;
+    c.want.predecessor = target;
     c.plain = true;
     if x % 4 == 0 {
         c.after = 0;
     }
+    if target {
+        return aimed(wanting(c, x), x);
+    }
     wanting(c, x)
+}
+
+// With a target: the least sums are wanted as often as the greatest, and of some calls the layer is the first.
+fn aimed(call: Call, x: usize) -> Call {
+    let least = x / 16 % 2 == 0;
+    let first = num::wrapping_sub_usize(call.h, 1);
+    let mut c = call;
+    c.want.least = least;
+    if x % 4 == 1 {
+        c.after = first;
+    }
+    c
 }
 
 // One that has to write nothing: an odd width, one past 20, a layer of the whole width, or a number that could be taken for none.

@@ -2,10 +2,10 @@
 use crate::calls;
 use crate::calls::Call;
 use crate::calls::Group;
-use crate::halves;
-use crate::halves::Found;
 use crate::memory;
 use crate::memory::Bytes;
+use crate::plain;
+use crate::plain::Found;
 use crate::random;
 use score_table::Picked;
 use std::num;
@@ -105,7 +105,7 @@ fn fill_both(
 // By the plain search where the call says so, and else entry by entry.
 fn otherwise(next: &[u8; 512], call: Call, seed: usize, givens: &[u8], table: &mut [u16]) {
     if call.plain {
-        halves::fill(memory::halves_rule(seed), call, givens, table);
+        plain::fill(memory::plain_rule(seed), call, givens, table);
         return;
     }
     by_entries(next, call, call.from, call.count, givens, table);
@@ -231,11 +231,11 @@ fn write_place(
     }
 }
 
-// Rows chosen by halves over leftovers, each by the plain search too.
-pub fn try_rows(name: &[u8], calls: usize, table: &mut [u16]) {
+// Rows chosen over leftovers, each by the plain search too.
+pub fn try_rows(name: &[u8], halves: bool, target: bool, calls: usize, table: &mut [u16]) {
     let mut t = nothing();
     for k in 0..calls {
-        t = try_row(calls::halves(1 + k % 4, k), k, table, t);
+        t = try_row(calls::searched(halves, target, k), k, table, t);
     }
     print_rows(name, t);
 }
@@ -247,7 +247,7 @@ fn print_rows(name: &[u8], t: Tally) {
 }
 
 fn try_row(call: Call, seed: usize, table: &mut [u16], t: Tally) -> Tally {
-    let next = calls::patterns(Group::Halves, seed);
+    let next = rule::table::of(memory::plain_rule(seed));
     let mut givens = [0u8; 704];
     memory::write_bytes(&mut givens, Bytes::Givens, seed);
     lend_row(&next, call, seed, &givens, table, t)
@@ -286,7 +286,7 @@ fn choose_both(
     table: &[u16],
     t: Tally,
 ) -> Tally {
-    let n = halves::codes(call.w);
+    let n = plain::codes(call.want, call.w);
     let r = num::wrapping_sub_usize(call.h, num::wrapping_add_usize(call.after, 1));
     let above = random::below(n, seed, 20);
     let last = random::below(n, seed, 21);
@@ -303,10 +303,10 @@ fn choose_both(
         givens,
         table,
     );
-    let rule = memory::halves_rule(seed);
-    match halves::best(rule, call, r, above, last, givens, table) {
+    let rule = memory::plain_rule(seed);
+    match plain::best(rule, call, r, above, last, givens, table) {
         Found::Nothing => tallied(t, 0, row_differs(picked, 0, 0, 1)),
-        Found::Half(c, worth, _) => tallied(t, 1, row_differs(picked, c, worth, 0)),
+        Found::Row(c, worth, _) => tallied(t, 1, row_differs(picked, c, worth, 0)),
     }
 }
 

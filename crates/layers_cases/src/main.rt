@@ -1,9 +1,9 @@
-// Tries the filling of the score table by layers against the filling entry by entry: pseudo-random calls over leftovers, and every place of the table
-// compared. Prints what was tried.
+// Tries the filling of the score table by layers against the filling entry by entry or a plain search, and the choice of rows against that search:
+// pseudo-random calls over leftovers, and every place of the table compared. Prints what was tried.
 mod calls;
 mod fills;
-mod halves;
 mod memory;
+mod plain;
 mod random;
 
 use calls::Group;
@@ -20,6 +20,7 @@ fn try_all(a: &mut [u16], b: &mut [u16], wide: &mut [u16]) {
     try_other_layers(a, b);
     try_other_calls(a, b);
     try_halves(a, b);
+    try_targets(a, b);
     try_wide_layers(wide);
 }
 
@@ -68,7 +69,44 @@ fn try_halves(a: &mut [u16], b: &mut [u16]) {
         a,
         b,
     );
-    fills::try_rows(b"rows by halves, against a plain search: ", 240, a);
+    fills::try_rows(
+        b"rows by halves, against a plain search: ",
+        true,
+        false,
+        240,
+        a,
+    );
+}
+
+fn try_targets(a: &mut [u16], b: &mut [u16]) {
+    fills::try_group(
+        b"layers of a target, against a plain search: ",
+        Group::Targets,
+        240,
+        a,
+        b,
+    );
+    fills::try_rows(
+        b"rows of a target, against a plain search: ",
+        false,
+        true,
+        960,
+        a,
+    );
+    fills::try_group(
+        b"layers of a target by halves, against a plain search: ",
+        Group::TargetHalves,
+        240,
+        a,
+        b,
+    );
+    fills::try_rows(
+        b"rows of a target by halves, against a plain search: ",
+        true,
+        true,
+        960,
+        a,
+    );
 }
 
 fn try_wide_layers(table: &mut [u16]) {

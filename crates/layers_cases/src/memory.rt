@@ -125,8 +125,8 @@ fn rule_of(seed: usize) -> Rule {
     }
 }
 
-// The rule of a call by halves: Conway's, or a pseudo-random one.
-pub fn halves_rule(seed: usize) -> Rule {
+// The rule of a call that is compared with the plain search: Conway's, or a pseudo-random one.
+pub fn plain_rule(seed: usize) -> Rule {
     if seed / 4 % 2 == 0 {
         rule::conway()
     } else {

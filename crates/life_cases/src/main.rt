@@ -20,6 +20,7 @@ fn main() {
     judgements_refused();
     tables::refused();
     givens_refused();
+    targets_refused();
 }
 
 // Boards with a name, each with its verdict.
@@ -150,6 +151,35 @@ fn givens_refused() {
     report::check(
         b"givens 0, 3, 2, 4",
         board::check_givens(2, 2, &[0, 3, 2, 4]),
+    );
+}
+
+fn targets_refused() {
+    report::check(
+        b"target 0, 1, 1, 0",
+        board::check_target(2, 2, &[0, 1, 1, 0]),
+    );
+    report::check(b"target 0, 1, 2", board::check_target(2, 2, &[0, 1, 2]));
+    report::check(
+        b"target 0, 1, 1, 0, 2",
+        board::check_target(2, 2, &[0, 1, 1, 0, 2]),
+    );
+    report::check(
+        b"target 0, 1, 2, 0",
+        board::check_target(2, 2, &[0, 1, 2, 0]),
+    );
+    report::check(
+        b"target 0, 255, 2, 1",
+        board::check_target(2, 2, &[0, 255, 2, 1]),
+    );
+    report::check(b"target of no cell", board::check_target(2, 0, &[]));
+    report::check(
+        b"target of 3 by 2",
+        board::check_target(3, 2, &[0, 1, 1, 0, 1, 1]),
+    );
+    report::check(
+        b"the same as 2 by 2",
+        board::check_target(2, 2, &[0, 1, 1, 0, 1, 1]),
     );
 }
 

@@ -130,12 +130,14 @@ pub fn resumed(job: Job) -> Job {
     next
 }
 
-// Whether the numbers that pausing gives are refused when they are resumed as either of the other kinds.
+// Whether the numbers that pausing gives are refused when they are resumed as any of the other kinds.
 pub fn are_others_refused(job: Job) -> bool {
     let Paused::Numbers(numbers) = job.pause() else {
         return false;
     };
-    is_resuming_refused(numbers, Kind::Ordinary) && is_resuming_refused(numbers, Kind::TwoLayers)
+    is_resuming_refused(numbers, Kind::Ordinary)
+        && is_resuming_refused(numbers, Kind::TwoLayers)
+        && is_resuming_refused(numbers, Kind::Predecessor)
 }
 
 fn is_resuming_refused(numbers: Checkpoint, kind: Kind) -> bool {

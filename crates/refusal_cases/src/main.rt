@@ -1,9 +1,10 @@
 // Tries the refusals of opening, working, pausing and resuming: each once, and their order, for a call that breaks several rules answers the first.
 // Prints each answer, the job that a working call hands back, and how much it has written. Ordinary jobs come first, then those of two layers,
-// then those of mirror boards.
+// then those of mirror boards, then predecessor jobs.
 mod mirror_boards;
 mod numbers;
 mod openings;
+mod predecessors;
 mod rounds;
 mod spoiling;
 mod two_layers;
@@ -58,4 +59,17 @@ fn main() {
     mirror_boards::rows();
     mirror_boards::limits();
     mirror_boards::pauses();
+    openings::predecessor_order();
+    openings::predecessors();
+    predecessors::order();
+    predecessors::memory();
+    predecessors::passes();
+    predecessors::spoiled();
+    predecessors::choices();
+    predecessors::kinds();
+    predecessors::sizes();
+    predecessors::lengths();
+    predecessors::rows();
+    predecessors::limits();
+    predecessors::pauses();
 }

@@ -123,10 +123,12 @@ pub fn kinds() {
     resume_kind(1);
     resume_kind(2);
     resume_kind(3);
+    resume_kind(4);
     resume_kind(18446744073709551615);
     let t = paused(4, 3, 0, 0);
     rounds::resume(Kind::Ordinary, t);
     rounds::resume(Kind::TwoLayers, t);
+    rounds::resume(Kind::Predecessor, t);
 }
 
 fn resume_kind(kind: usize) {

@@ -89,6 +89,7 @@ fn print_ready(job: Job) {
         Kind::Ordinary => report::line(b": a job at unit ", job.units),
         Kind::TwoLayers => report::line(b": a job of two layers at unit ", job.units),
         Kind::Mirror => report::line(b": a job of mirror boards at unit ", job.units),
+        Kind::Predecessor => report::line(b": a predecessor job at unit ", job.units),
     }
 }
 

@@ -253,6 +253,104 @@ pub fn lopsided() {
     open_two(b"open, two layers, two rows alike", 8, 4, 2, &alike);
 }
 
+// Openings of predecessor jobs, each of which breaks the rule that it names and those checked after it.
+pub fn predecessor_order() {
+    open_before(
+        b"open, predecessor, width 0, and all below",
+        9,
+        0,
+        61,
+        &[1, 1, 1, 2],
+    );
+    open_before(
+        b"open, predecessor, width 11, and all below",
+        9,
+        11,
+        61,
+        &[1, 1, 1, 2],
+    );
+    open_before(
+        b"open, predecessor, width 12, and all below",
+        9,
+        12,
+        61,
+        &[1, 1, 1, 2],
+    );
+    open_before(
+        b"open, predecessor, height 0, and all below",
+        9,
+        3,
+        0,
+        &[1, 1, 1, 2],
+    );
+    open_before(
+        b"open, predecessor, height 61, and all below",
+        9,
+        3,
+        61,
+        &[1, 1, 1, 2],
+    );
+    open_before(
+        b"open, predecessor, births 9, and all below",
+        9,
+        3,
+        2,
+        &[1, 1, 1, 2],
+    );
+    open_target(
+        b"open, predecessor, 4 cells of 6, and all below",
+        &[1, 1, 1, 2],
+    );
+    open_target(
+        b"open, predecessor, 7 cells of 6, and all below",
+        &[1, 1, 1, 2, 0, 0, 0],
+    );
+    open_target(b"open, predecessor, bytes 2 and 3", &[1, 1, 1, 0, 2, 3]);
+    open_target(b"open, predecessor, bytes 255 and 2", &[0, 255, 1, 0, 2, 0]);
+}
+
+// Targets of 3 by 2 that would be edge threes or lopsided as givens, under Conway's rule, the last under another; and sizes at the limits.
+pub fn predecessors() {
+    open_target(b"open, predecessor, row 1 of 2", &[2, 2, 2, 0, 0, 0]);
+    open_target(b"open, predecessor, row 1 live", &[1, 1, 1, 0, 0, 0]);
+    open_target(b"open, predecessor, all live", &[1; 6]);
+    open_target(b"open, predecessor, the first live", &[1, 0, 0, 0, 0, 0]);
+    open_target(b"open, predecessor, dead", &[0; 6]);
+    open_before(
+        b"open, predecessor, births on 2, 3, 4, all live",
+        28,
+        3,
+        2,
+        &[1; 6],
+    );
+    open_before(
+        b"open, predecessor, 4 by 2, two rows alike",
+        8,
+        4,
+        2,
+        &[1, 1, 0, 0, 1, 1, 0, 0],
+    );
+    open_before(b"open, predecessor, 1 by 1, live", 8, 1, 1, &[1]);
+    open_before(b"open, predecessor, 10 by 60, live", 8, 10, 60, &[1; 600]);
+    open_before(b"open, predecessor, 11 by 60, live", 8, 11, 60, &[1; 660]);
+    open_before(b"open, predecessor, 12 by 60, live", 8, 12, 60, &[1; 720]);
+    open_before(b"open, predecessor, 10 by 61, live", 8, 10, 61, &[1; 610]);
+}
+
+// An opening for a predecessor job of 3 by 2 under Conway's rule.
+fn open_target(name: &[u8], target: &[u8]) {
+    open_before(name, 8, 3, 2, target);
+}
+
+fn open_before(name: &[u8], births: usize, w: usize, h: usize, target: &[u8]) {
+    let rule = Rule {
+        births,
+        survivals: 12,
+    };
+    report::text(name);
+    numbers::print_result(job::open(Kind::Predecessor, rule, w, h, target));
+}
+
 // An opening for a job of mirror boards of 4 by 2 under Conway's rule.
 fn open_halves(name: &[u8], givens: &[u8]) {
     open_mirror(name, 8, 4, 2, givens);

@@ -14,6 +14,8 @@ pub fn kinds() {
     resume_as_both(0, 0);
     resume_as_both(0, 1);
     resume_as_both(0, 2);
+    resume_as_both(0, 3);
+    resume_as_both(0, 4);
     resume_as_both(0, 18446744073709551615);
     resume_as_both(49, 0);
     resume_as_both(49, 1);
@@ -124,6 +126,7 @@ pub fn resume(kind: Kind, numbers: Checkpoint) {
         Kind::Ordinary => report::text(b", as ordinary"),
         Kind::TwoLayers => report::text(b", as two layers"),
         Kind::Mirror => report::text(b", as mirror boards"),
+        Kind::Predecessor => report::text(b", as predecessor"),
     }
     match numbers.resume(kind) {
         JobResult::Ready(job) => {

@@ -157,6 +157,7 @@ pub fn print_fields(job: Job) {
         Kind::Ordinary => report::text(b"job: "),
         Kind::TwoLayers => report::text(b"job of two layers: "),
         Kind::Mirror => report::text(b"job of mirror boards: "),
+        Kind::Predecessor => report::text(b"predecessor job: "),
     }
     report::number(job.width);
     report::text(b" by ");

@@ -10,15 +10,15 @@ use lib.Dec.{leb}
 use Rattle.board.specs.Answers.{Answer, gives, refuses, passed, Checked}
 use Rattle.board.proofs.Answers.{refuses-none}
 use Rattle.rule.specs.declared.Rule.{Rule}
-use Rattle.solver.specs.Grid.{score}
-use Rattle.job.specs.Jobs.{boardLength, noneLength, start, readCheck}
+use Rattle.solver.specs.Grid.{countBy}
+use Rattle.job.specs.Jobs.{hasTarget, refills, boardLength, noneLength, start, readCheck}
 use Rattle.service.specs.Service.{workCheck, workOf, unfinished, finished, infeasible}
 use Rattle.solver.specs.Units.{State, grid}
 use Rattle.solver.specs.Calls.{Result}
 use Rattle.solver.specs.Inner.{lentState}
 use Rattle.service.specs.Demand.{Call, work, afterWork, afterCall, run, Each, Fair, counted, allowed, summed, Answers, Served, Outcome, solved, unsolvable}
 use Rattle.service.specs.JobKinds.{aimOf}
-use Rattle.solver.specs.Demand.{TableAfter, gridKind, ThirdDemand}
+use Rattle.solver.specs.Demand.{TableBy, TableAfter, gridKind, ThirdDemand}
 use Rattle.job.specs.Calls.{Opens}
 use Rattle.job.specs.declared.Kind.{Kind}
 use Rattle.job.specs.declared.Job.{Job}
@@ -97,10 +97,12 @@ module _ {kind : Kind} {rule : Rule} {w h : ℕ} {g t₀ β₀ : List ℕ} {n : 
 
 -- the table in the end, from what the units of the job's length leave
 table-ends : (kind : Kind) (rule : Rule) (w h : ℕ) (g : List ℕ) → 0 < h → (long : ℕ) → noneLength kind w h ≤ long → long ≤ boardLength kind w h → (t₀ t : List ℕ)
-    → TableAfter kind rule w h g long t₀ t → TableEnds kind rule w h g long t₀ t
-table-ends Kind.Ordinary rule w h g high long some most t₀ t F = rw (entries-all Kind.Ordinary w h long refl high some most) at F
-table-ends Kind.TwoLayers rule w h g high long some most t₀ t F = F
-table-ends Kind.Mirror rule w h g high long some most t₀ t F = rw (entries-all Kind.Mirror w h long refl high some most) at F
+    → TableAfter kind rule w h g long t₀ t → TableEnds (refills kind) kind rule w h g long t₀ t
+table-ends kind rule w h g high long some most t₀ t F = go (refills kind) refl F
+  where
+    go : (two : Bool) → refills kind ≡ two → TableBy two kind rule w h g long t₀ t → TableEnds two kind rule w h g long t₀ t
+    go true e F = F
+    go false e F = rw (entries-all kind w h long e high some most) at F
 
 -- what a turn that ends nothing leaves
 pub record Goes (kind : Kind) (rule : Rule) (w h : ℕ) (g t₀ β₀ : List ℕ) (s s′ : State) : Type 0 where
@@ -209,7 +211,7 @@ module _ {kind : Kind} {rule : Rule} {w h : ℕ} {g : List ℕ} (O : Opens kind 
           go (solved board final O S) =
               served-turns (boardLength kind w h) final board (omega arith) (λ e. let z : _≡_ {A = ℕ} 0 1 = cc in omega arith)
               (λ says t β e F q.
-              best (rw q (O .wanted)) (e ∙ O .says ∙ ap (λ (b : List ℕ). finished (score w h g b)) (sym q)) (table-ends kind rule w h g high (boardLength kind w h) (shorter kind w h high) (omega arith) t₀ t F))
+              best (rw q (O .wanted)) (e ∙ O .says ∙ ap (λ (b : List ℕ). finished (countBy (hasTarget kind) w h g b)) (sym q)) (table-ends kind rule w h g high (boardLength kind w h) (shorter kind w h high) (omega arith) t₀ t F))
               S
           go (unsolvable f S) =
               served-turns (noneLength kind w h) infeasible β₀ (shorter kind w h high) (λ e. let z : _≡_ {A = ℕ} 0 1 = cc in omega arith)

@@ -1,15 +1,15 @@
 -- A job run to its end in one call: what it answers and leaves, for every input.
 -- Assumes nothing.
 use mathlib.Core.Path.{_≡_}
-use mathlib.Core.Bool.{true, false}
+use mathlib.Core.Bool.{Bool, true, false}
 use mathlib.Core.List.{List}
 use Prim.Native.Nat.{ℕ}
 use Rattle.board.specs.Answers.{Answer, refuses, passed, refusalSays, _then_}
 use Rattle.board.specs.Checks.{lengthCheck, tableSize, tableCheck}
 use Rattle.rule.specs.Rule.{gridCheck}
 use Rattle.rule.specs.declared.Rule.{Rule}
-use Rattle.solver.specs.Grid.{SolutionBy, OptimalBy, score}
-use Rattle.job.specs.Jobs.{halvesOf, kindDigits, layersOf, boardLength, noneLength, readCheck}
+use Rattle.solver.specs.Grid.{SolutionBy, OptimalBy, countBy}
+use Rattle.job.specs.Jobs.{halvesOf, hasTarget, refills, kindDigits, layersOf, boardLength, noneLength, readCheck}
 use Rattle.job.specs.Calls.{Opens}
 use Rattle.service.specs.Service.{finished, infeasible}
 use Rattle.solver.specs.Demand.{FilledTo, TwoLayersTo}
@@ -28,23 +28,22 @@ solvedSays (Solved.Refused r) = refusalSays r
 unfoldable pub memoryCheck : Kind → ℕ → ℕ → List ℕ → List ℕ → Answer
 memoryCheck kind w h table board = lengthCheck 5 w h board then tableCheck (kindDigits kind w) (layersOf kind h) table
 
--- its checks: 1, 2, 13, 3, 4, 14, 15 as opening, then those
+-- its checks: 1, 2, 13, 3, 4, 14, 15 as opening, with a target 1, 2, 13, 3, 4; then those
 unfoldable pub solveCheck : Kind → Rule → ℕ → ℕ → List ℕ → List ℕ → List ℕ → Answer
 solveCheck kind rule w h givens table board = gridCheck (halvesOf kind) rule w h then readCheck kind rule w h givens then memoryCheck kind w h table board
 
--- What the table holds in the end: of a job that fills the whole table every entry, right; of two layers what the units of the job's length leave in
--- the halves. Every place that no unit wrote holds what it held.
-abbrev pub TableEnds : Kind → Rule → ℕ → ℕ → List ℕ → ℕ → List ℕ → List ℕ → Type 0
-TableEnds Kind.Ordinary rule w h givens long table table′ = FilledTo false rule w h givens (tableSize w h) table table′
-TableEnds Kind.TwoLayers rule w h givens long table table′ = TwoLayersTo rule w h givens long table table′
-TableEnds Kind.Mirror rule w h givens long table table′ = FilledTo true rule w h givens (tableSize (kindDigits Kind.Mirror w) h) table table′
+-- What the table holds in the end: of two layers, which are filled again before each row, what the units of the job's length leave in the halves; of a job
+-- that fills the whole table every entry, right. Every place that no unit wrote holds what it held.
+abbrev pub TableEnds : Bool → Kind → Rule → ℕ → ℕ → List ℕ → ℕ → List ℕ → List ℕ → Type 0
+TableEnds true kind rule w h givens long table table′ = TwoLayersTo rule w h givens long table table′
+TableEnds false kind rule w h givens long table table′ = FilledTo kind rule w h givens (tableSize (kindDigits kind w) h) table table′
 
--- the board that is left is the wanted one, of a mirror job the best mirror board, and the answer its score; or there is no such board that is still
--- and keeps the givens, the answer says so, and the board is unwritten
+-- the board that is left is the wanted one, of a mirror job the best mirror board, with a target the one with the fewest live cells that steps to it, and
+-- the answer what it counts; or there is no such board, the answer says so, and the board is unwritten
 pub data Ends (kind : Kind) (rule : Rule) (w h : ℕ) (givens table board : List ℕ) (says : Answer) (table′ board′ : List ℕ) : Type 0 where
-  best : OptimalBy (halvesOf kind) rule w h givens board′ → says ≡ finished (score w h givens board′) → TableEnds kind rule w h givens (boardLength kind w h) table table′
+  best : OptimalBy kind rule w h givens board′ → says ≡ finished (countBy (hasTarget kind) w h givens board′) → TableEnds (refills kind) kind rule w h givens (boardLength kind w h) table table′
       → Ends kind rule w h givens table board says table′ board′
-  none : ((other : List ℕ) → SolutionBy (halvesOf kind) rule w h givens other → ⊥) → says ≡ infeasible → board′ ≡ board → TableEnds kind rule w h givens (noneLength kind w h) table table′
+  none : ((other : List ℕ) → SolutionBy kind rule w h givens other → ⊥) → says ≡ infeasible → board′ ≡ board → TableEnds (refills kind) kind rule w h givens (noneLength kind w h) table table′
       → Ends kind rule w h givens table board says table′ board′
 
 -- Turned away, the call answers its refusal and writes nothing. Otherwise it comes to the job's end.

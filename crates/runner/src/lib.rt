@@ -7,7 +7,8 @@ use rule::Rule;
 use solver::Status;
 ghost use Rattle.runner.specs.Solving.{Solves, Runs, Ready};
 
-// The best board's score, or that no still board keeps the givens, of a mirror job no mirror board.
+// What the wanted board counts, or that there is none: the best board's score, or that no still board keeps the givens, of a mirror job no mirror board;
+// with a target the fewest live cells, or that no board steps to it.
 pub enum Solved {
     Best(usize),
     Infeasible,
@@ -18,7 +19,8 @@ pub enum Solved {
 const ALLOWANCE: u32 = 1000;
 
 // Solves a grid of givens under a rule, by a job of a kind: leaves the best still board that keeps them, or the best mirror board, first in board order
-// among the best, in `board`, over a table with room for the kind's layers. Refusals 1, 2, 13, 3, 4, 14, 15 as opening, then 5, 6 as working.
+// among the best, in `board`, over a table with room for the kind's layers; or of a target, lent for the givens, the board with the fewest live cells that
+// steps to it. Refusals 1, 2, 13, 3, 4, 14, 15 as opening, with a target 1, 2, 13, 3, 4; then 5, 6 as working.
 pub fn solve(
     kind: Kind,
     rule: Rule,

@@ -14,7 +14,7 @@ use Rattle.elimination.specs.Candidates.{Choice, nothing, chosen}
 use Rattle.elimination.specs.Kind.{choose}
 use Rattle.elimination.specs.Table.{reads, fillEntries}
 use Rattle.board.proofs.Widths.{width-le, width-of, width-fits}
-use Rattle.score_table.specs.Rows.{rowWorth, rowKept, rowGain, digitsOf, rowFor}
+use Rattle.score_table.specs.Rows.{rowWorth, rowKept, rowGain, marksOf, digitsOf, rowFor}
 use Rattle.score_table.specs.ScoreTable.{absent, kindFor}
 use Rattle.score_table.specs.Inner.{Memory, EntriesRead}
 use Rattle.score_table.specs.Calls.{gridFits, callFits, layerFits, fillFits, fillWrites, gainOf, rowPicked, pickedOf}
@@ -228,7 +228,7 @@ module _ (want : Want) (w h : ℕ) (g : List ℕ) where
             pub picks-choice : {o : Choice ℕ} → o ≡ choice → pickedOf want w g r o ≡ wanted
             picks-choice q = ap (pickedOf want w g r) (q ∙ sym picked-choice)
 
-            pub picks-row : {c n x : ℕ} → chosen c n ≡ choice → x ≡ rowWorth w g (r * w) (rowFor want w c) → Picked.Row c x ≡ wanted
+            pub picks-row : {c n x : ℕ} → chosen c n ≡ choice → x ≡ rowWorth w (marksOf (want .predecessor) g) (r * w) (rowFor want w c) → Picked.Row c x ≡ wanted
             picks-row q e = rw e (picks-choice q)
 
 -- ---- what the answer tells of the choice
@@ -241,11 +241,11 @@ module _ (want : Want) (w : ℕ) (g : List ℕ) (r : ℕ) where
   pub record PickedRow (o : Choice ℕ) (c x : ℕ) : Type 0 where
     pub sum : ℕ
     pub is : o ≡ chosen c sum
-    pub worth : x ≡ rowWorth w g (r * w) (rowFor want w c)
+    pub worth : x ≡ rowWorth w (marksOf (want .predecessor) g) (r * w) (rowFor want w c)
 
   pub picked-row : (o : Choice ℕ) (c x : ℕ) → Picked.Row c x ≡ pickedOf want w g r o → PickedRow o c x
   picked-row nothing c x e = absurd (let z : _≡_ {A = ℕ} 0 1 = cc in omega arith)
   picked-row (chosen d n) c x e =
       let p : c ≡ d = cc in
-      let q : x ≡ rowWorth w g (r * w) (rowFor want w d) = cc in
+      let q : x ≡ rowWorth w (marksOf (want .predecessor) g) (r * w) (rowFor want w d) = cc in
       record { sum = n; is = rw p; worth = rw p q }

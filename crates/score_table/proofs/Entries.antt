@@ -13,8 +13,8 @@ use Rattle.elimination.specs.Candidates.{scan}
 use Rattle.elimination.specs.Kind.{Kind, offerIf, choose, entry, worthOf}
 use Rattle.elimination.specs.Table.{reads}
 use Rattle.elimination.proofs.Kind.{entry-last, entry-more}
-use Rattle.life.specs.Rows.{agree}
-use Rattle.score_table.specs.Rows.{rowKept, digitsOf, rowFor}
+use Rattle.life.specs.Rows.{stepsTo}
+use Rattle.score_table.specs.Rows.{rowKept, marksOf, targetRow, digitsOf, rowFor}
 use Rattle.score_table.specs.ScoreTable.{absent, kindFor, readsFrom}
 use Rattle.score_table.specs.Inner.{choiceOf, compared, kindBy, Found, entryOver}
 use Rattle.score_table.specs.declared.Want.{Want}
@@ -22,21 +22,28 @@ use Rattle.score_table.specs.declared.best.Best.{Best}
 use Rattle.board.proofs.Powers.{four-two}
 
 -- ---- a row's givens and its layer
--- the choice goes by the place of the givens alone, and the middle row stays as it is
+-- the choice goes by the place of the givens alone, and by what the middle row has to become
 choose-here : (want : Want) (next : ℕ → ℕ) (w h : ℕ) (givens : List ℕ) (k a b : ℕ) (read : ℕ → ℕ)
-    → choose (kindFor want next w h givens) k a b read ≡ choose (kindBy want next w (rowFor want w b) givens ((h - suc k) * w)) 0 a b read
+    → choose (kindFor want next w h givens) k a b read
+    ≡ choose (kindBy want next w (targetRow (want .predecessor) w givens (h - suc k) (rowFor want w b)) givens ((h - suc k) * w)) 0 a b read
 unfolding choose
 choose-here want next w h givens k a b read =
-    ap (λ (f : ℕ → Option ℕ). scan (compared want) f (2 ^ digitsOf want w)) (fun-ext λ c. go (agree next w (rowFor want w a) (rowFor want w b) (rowFor want w c) && rowKept w givens ((h - suc k) * w) (rowFor want w c)) c)
+    let t = targetRow (want .predecessor) w givens (h - suc k) (rowFor want w b) in
+    ap (λ (f : ℕ → Option ℕ). scan (compared want) f (2 ^ digitsOf want w))
+    (fun-ext λ c. go (stepsTo next w (rowFor want w a) (rowFor want w b) (rowFor want w c) t && rowKept w (marksOf (want .predecessor) givens) ((h - suc k) * w) (rowFor want w c)) c)
   where
-    go : (t : Bool) (c : ℕ) → offerIf (kindFor want next w h givens) t k read c ≡ offerIf (kindBy want next w (rowFor want w b) givens ((h - suc k) * w)) t 0 read c
+    go : (s : Bool) (c : ℕ)
+        → offerIf (kindFor want next w h givens) s k read c
+        ≡ offerIf (kindBy want next w (targetRow (want .predecessor) w givens (h - suc k) (rowFor want w b)) givens ((h - suc k) * w)) s 0 read c
     go true c = refl
     go false c = refl
 
-choose-at : (want : Want) (next : ℕ → ℕ) (w h : ℕ) (givens : List ℕ) (k a b : ℕ) (read : ℕ → ℕ) {at : ℕ} → (h - suc k) * w ≡ at
-    → choose (kindFor want next w h givens) k a b read ≡ choose (kindBy want next w (rowFor want w b) givens at) 0 a b read
+choose-at : (want : Want) (next : ℕ → ℕ) (w h : ℕ) (givens : List ℕ) (k a b : ℕ) (read : ℕ → ℕ) {r : ℕ} → h - suc k ≡ r
+    → choose (kindFor want next w h givens) k a b read
+    ≡ choose (kindBy want next w (targetRow (want .predecessor) w givens r (rowFor want w b)) givens (r * w)) 0 a b read
 choose-at want next w h givens k a b read e =
-    choose-here want next w h givens k a b read ∙ ap (λ (x : ℕ). choose (kindBy want next w (rowFor want w b) givens x) 0 a b read) e
+    choose-here want next w h givens k a b read
+    ∙ ap (λ (x : ℕ). choose (kindBy want next w (targetRow (want .predecessor) w givens x (rowFor want w b)) givens (x * w)) 0 a b read) e
 
 -- the numbers read for the rows below b are those from the place of its part of the layer on
 reads-from : (want : Want) (next : ℕ → ℕ) (w h : ℕ) (givens table : List ℕ) (source b first : ℕ) → first ≡ source + b * 2 ^ digitsOf want w
@@ -45,15 +52,14 @@ unfolding reads
 reads-from want next w h givens table source b first e = fun-ext λ c. ap (λ (p : ℕ). getD table p 0) (omega arith)
 
 module _ (want : Want) (next : ℕ → ℕ) (w h : ℕ) (givens table : List ℕ) (r source a b first t : ℕ) (start : first ≡ source + b * 2 ^ digitsOf want w)
-    (stays : t ≡ rowFor want w b) (o : Best) (F : Found want w o (choose (kindBy want next w t givens (r * w)) 0 a b (readsFrom table first))) where
+    (becomes : t ≡ targetRow (want .predecessor) w givens r (rowFor want w b)) (o : Best) (F : Found want w o (choose (kindBy want next w t givens (r * w)) 0 a b (readsFrom table first))) where
   abbrev K : Kind ℕ
   K = kindFor want next w h givens
 
   -- what the search found is the choice with k rows after it
   found-choice : (k : ℕ) → h - suc k ≡ r → choiceOf o ≡ choose K k a b (reads K table source b)
   found-choice k e =
-      F .is
-      ∙ rw (stays, reads-from want next w h givens table source b first start) (sym (choose-at want next w h givens k a b (readsFrom table first) (ap (λ (n : ℕ). n * w) e)))
+      F .is ∙ rw (becomes, reads-from want next w h givens table source b first start) (sym (choose-at want next w h givens k a b (readsFrom table first) e))
 
   -- choosing a row
   pub found-row : r < h → choiceOf o ≡ choose K (h - suc r) a b (reads K table source b)
@@ -82,23 +88,25 @@ module _ (bits j n : ℕ) (en : n ≡ 2 ^ bits) where
   pub row-b-lt : j % n < 2 ^ bits
   row-b-lt = rw en (mod-lt j (pow-pos bits))
 
-module _ (want : Want) (w j n : ℕ) (en : n ≡ 2 ^ digitsOf want w) (next : ℕ → ℕ) (h k source : ℕ) (givens table : List ℕ) (t : ℕ)
-    (et : t ≡ rowFor want w (j % n)) where
+-- row b has to become t
+module _ (want : Want) (w j n : ℕ) (en : n ≡ 2 ^ digitsOf want w) (next : ℕ → ℕ) (h k source : ℕ) (givens table : List ℕ) (b t : ℕ)
+    (eb : b ≡ rowFor want w (j % n)) (et : t ≡ targetRow (want .predecessor) w givens (h - k) b) where
   -- the last layer
   module _ (z : k ≡ 0) (a : ℕ) (ea : a ≡ rowFor want w (j / n)) where
-    entry-at-last : (s u : Bool) → agree next w a t 0 ≡ s → agree next w t 0 0 ≡ u → entryOver want next w h k source j givens table ≡ cond (s && u) 0 absent
+    entry-at-last : (s u : Bool) → stepsTo next w a b 0 t ≡ s → stepsTo next w b 0 0 0 ≡ u → entryOver want next w h k source j givens table ≡ cond (s && u) 0 absent
     entry-at-last s u e f =
-        let p : agree next w (rowFor want w (j / 2 ^ digitsOf want w)) (rowFor want w (j % 2 ^ digitsOf want w)) 0 ≡ s = rw (ea, et, en) at e in
-        let r : agree next w (rowFor want w (j % 2 ^ digitsOf want w)) 0 0 ≡ u = rw (et, en) at f in
+        let c = rowFor want w (j % 2 ^ digitsOf want w) in
+        let p : stepsTo next w (rowFor want w (j / 2 ^ digitsOf want w)) c 0 (targetRow (want .predecessor) w givens (h - 0) c) ≡ s = rw (ea, et, eb, en, z) at e in
+        let r : stepsTo next w c 0 0 0 ≡ u = rw (eb, en) at f in
         rw z (entry-last (kindFor want next w h givens) _ _ _ ∙ rw (p, r))
 
-    pub entry-apart : agree next w a t 0 ≡ false → absent ≡ entryOver want next w h k source j givens table
-    entry-apart e = sym (entry-at-last false (agree next w t 0 0) e refl)
+    pub entry-apart : stepsTo next w a b 0 t ≡ false → absent ≡ entryOver want next w h k source j givens table
+    entry-apart e = sym (entry-at-last false (stepsTo next w b 0 0 0) e refl)
 
-    pub entry-open : agree next w a t 0 ≡ true → agree next w t 0 0 ≡ false → absent ≡ entryOver want next w h k source j givens table
+    pub entry-open : stepsTo next w a b 0 t ≡ true → stepsTo next w b 0 0 0 ≡ false → absent ≡ entryOver want next w h k source j givens table
     entry-open e f = sym (entry-at-last true false e f)
 
-    pub entry-ends : agree next w a t 0 ≡ true → agree next w t 0 0 ≡ true → 0 ≡ entryOver want next w h k source j givens table
+    pub entry-ends : stepsTo next w a b 0 t ≡ true → stepsTo next w b 0 0 0 ≡ true → 0 ≡ entryOver want next w h k source j givens table
     entry-ends e f = sym (entry-at-last true true e f)
 
   -- a layer above
@@ -106,4 +114,4 @@ module _ (want : Want) (w j n : ℕ) (en : n ≡ 2 ^ digitsOf want w) (next : �
       → Found want w o (choose (kindBy want next w t givens ((h - k) * w)) 0 (j / n) (j % n) (readsFrom table (source + j % n * n)))
       → worthOf absent (choiceOf o) ≡ entryOver want next w h k source j givens table
   entry-best z o F =
-      rw en at (found-entry want next w h givens table (h - k) source (j / n) (j % n) (source + j % n * n) t (rw en) et o F k z refl)
+      rw en at (found-entry want next w h givens table (h - k) source (j / n) (j % n) (source + j % n * n) t (rw en) (rw eb at et) o F k z refl)

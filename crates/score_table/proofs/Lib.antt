@@ -6,4 +6,5 @@ pub mod Skipping
 pub mod Scanning
 pub mod Places
 pub mod Entries
+pub mod Targets
 pub mod Calls

@@ -19,7 +19,7 @@ use Rattle.elimination.proofs.Kind.{offer-some, choose-scan}
 use Rattle.elimination.proofs.Order.{tied-refl}
 use Rattle.elimination.proofs.Sums.{sum-worse-ordered, tied-equal}
 use Rattle.life.specs.Rows.{becomes, stepsTo}
-use Rattle.score_table.specs.Rows.{rowWorth, rowKept, digitsOf, rowFor}
+use Rattle.score_table.specs.Rows.{rowWorth, rowKept, marksOf, digitsOf, rowFor}
 use Rattle.score_table.specs.Inner.{choiceOf, compared, kindBy, Found}
 use Rattle.score_table.proofs.Marks.{row-worth-le}
 use Rattle.score_table.specs.declared.Want.{Want}
@@ -29,6 +29,10 @@ use Rattle.score_table.specs.declared.best.Best.the-variants.{Nothing, R
 module _ (want : Want) (next : ℕ → ℕ) (w : ℕ) (givens : List ℕ) (at a b t : ℕ) (read : ℕ → ℕ) where
   abbrev pub G : Kind ℕ
   G = kindBy want next w t givens at
+
+  -- the marks that rows go by
+  abbrev marks : List ℕ
+  marks = marksOf (want .predecessor) givens
 
   -- three numbers' rows: whether the middle one becomes t, all of it or in column j
   abbrev steps : ℕ → Bool
@@ -46,18 +50,18 @@ module _ (want : Want) (next : ℕ → ℕ) (w : ℕ) (givens : List ℕ) (at a 
   unfolding stepsTo
   offer-apart x j l e = rw (all-false (turns x) (w + 2) j l e)
 
-  pub offer-barred : (x : ℕ) → rowKept w givens at (rowFor want w x) ≡ false → offers x ≡ none
+  pub offer-barred : (x : ℕ) → rowKept w marks at (rowFor want w x) ≡ false → offers x ≡ none
   offer-barred x e = rw (e, and-false (steps x))
 
   pub offer-absent : (x : ℕ) → want .limit < read x → offers x ≡ none
-  offer-absent x l = go (steps x && rowKept w givens at (rowFor want w x))
+  offer-absent x l = go (steps x && rowKept w marks at (rowFor want w x))
     where
       go : (t : Bool) → offerIf G t 0 read x ≡ none
       go true = rw (lt-leb (read x) (want .limit) l)
       go false = refl
 
-  pub offer-sum : (x : ℕ) → steps x ≡ true → rowKept w givens at (rowFor want w x) ≡ true → read x ≤ want .limit
-      → offers x ≡ some (rowWorth w givens at (rowFor want w x) + read x)
+  pub offer-sum : (x : ℕ) → steps x ≡ true → rowKept w marks at (rowFor want w x) ≡ true → read x ≤ want .limit
+      → offers x ≡ some (rowWorth w marks at (rowFor want w x) + read x)
   offer-sum x p q l = rw (p, q, le-leb (read x) (want .limit) l)
 
   -- ---- what the loop holds: the best of the candidates below c
@@ -102,7 +106,7 @@ module _ (want : Want) (next : ℕ → ℕ) (w : ℕ) (givens : List ℕ) (at a 
       let o = offer-some G 0 a b read r (B .worth) (B .offered) in
       record {
         row-lt = rw p at (B .inside);
-        number-le = omega (arith, tied-equal (want .least) (B .tied), o .worth, row-worth-le w givens at (rowFor want w r), leb-true (read r) (want .limit) (o .counted));
+        number-le = omega (arith, tied-equal (want .least) (B .tied), o .worth, row-worth-le w marks at (rowFor want w r), leb-true (read r) (want .limit) (o .counted));
       }
 
   pub found : {c : ℕ} {held : Best} → Held c held → c ≡ 2 ^ digitsOf want w → Found want w held (choose G 0 a b read)

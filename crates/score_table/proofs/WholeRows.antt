@@ -1,7 +1,7 @@
 -- Laws of rows that are held as their left halves: a whole row's cells and its leading digits, the loop that forms its number, and what holds of the
 -- row that a number stands for, a half or not.
 -- Assumes nothing.
-use mathlib.Core.Path.{_≡_, _∙_, sym, ap}
+use mathlib.Core.Path.{_≡_, _∙_, sym, ap, ap₂}
 use mathlib.Core.Bool.{Bool, true, false, cond}
 use mathlib.Core.List.{List}
 use Prim.Native.Nat.{ℕ, suc, _+_, _*_, _-_, _/_, _%_, _^_, _<_, _≤_}
@@ -111,9 +111,10 @@ rows-same true w x y j lx ly e =
     ]
 rows-same false w x y j lx ly e = e
 
--- a want by which a row's cells are its number's digits is the one that says so
+-- a want by which a row's cells are its number's digits and rows stay as they are is the one that says so
 abbrev pub plain : Want → Want
-plain want = record { least = want .least; «greater_first» = want .«greater_first»; limit = want .limit; halves = false }
+plain want = record { least = want .least; «greater_first» = want .«greater_first»; limit = want .limit; halves = false; predecessor = false }
 
-pub plain-is : (want : Want) → want .halves ≡ false → plain want ≡ want
-plain-is want e = ap (λ (b : Bool). record { least = want .least; «greater_first» = want .«greater_first»; limit = want .limit; halves = b }) (sym e)
+pub plain-is : (want : Want) → want .halves ≡ false → want .predecessor ≡ false → plain want ≡ want
+plain-is want e f =
+    ap₂ (λ (b t : Bool). record { least = want .least; «greater_first» = want .«greater_first»; limit = want .limit; halves = b; predecessor = t }) (sym e) (sym f)

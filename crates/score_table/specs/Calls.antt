@@ -10,7 +10,7 @@ use Rattle.board.specs.Boards.{maxHeight, widthFits}
 use Rattle.elimination.specs.Candidates.{Choice, nothing, chosen}
 use Rattle.elimination.specs.Kind.{choose}
 use Rattle.elimination.specs.Table.{reads, fillEntries}
-use Rattle.score_table.specs.Rows.{rowWorth, rowGain, digitsOf, rowFor}
+use Rattle.score_table.specs.Rows.{rowWorth, rowGain, marksOf, digitsOf, rowFor}
 use Rattle.score_table.specs.ScoreTable.{absent, kindFor}
 use Rattle.score_table.specs.declared.Want.{Want}
 use Rattle.score_table.specs.declared.Picked.{Picked}
@@ -57,4 +57,4 @@ rowPicked want next w h r source above last givens table =
 -- the answer: the row chosen, and what it is worth
 abbrev pub pickedOf : Want → ℕ → List ℕ → ℕ → Choice ℕ → Picked
 pickedOf want w givens r nothing = Picked.Nothing
-pickedOf want w givens r (chosen c n) = Picked.Row c (rowWorth w givens (r * w) (rowFor want w c))
+pickedOf want w givens r (chosen c n) = Picked.Row c (rowWorth w (marksOf (want .predecessor) givens) (r * w) (rowFor want w c))

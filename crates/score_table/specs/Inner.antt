@@ -46,7 +46,7 @@ compared want = record { worse = sumWorse (want .least); greaterFirst = want .«
 
 -- one search: the middle row has to become t, a row of w cells, and the candidates keep the givens that start at a place
 abbrev pub kindBy : Want → (ℕ → ℕ) → ℕ → ℕ → List ℕ → ℕ → Kind ℕ
-kindBy want next w t givens at = sumKind (rules want (λ a b c. stepsTo next w a b c t) w (λ k. at) givens)
+kindBy want next w t givens at = sumKind (rules want (stepsTo next w) (λ n b. t) w (λ k. at) givens)
 
 -- the best row is the rule's choice; a row that is found is one, and its number is at most the limit and a row's worth
 pub record Found (want : Want) (w : ℕ) (r : Best) (wanted : Choice ℕ) : Type 0 where

@@ -1,10 +1,10 @@
--- Document 01, "Grid, row word, givens", and Req 01, of one row: what it is worth, and the givens that it keeps; and the whole row of one that is
--- held as its left half. A row is its number; column k + 1 is counted by k, from 0.
+-- Document 01, "Grid, row word, givens", Req 01 and Req 08, of one row: what it is worth, the givens that it keeps, and what it has to become; and the
+-- whole row of one that is held as its left half. A row is its number; column k + 1 is counted by k, from 0.
 -- Assumes nothing.
 use mathlib.Core.Path.{_≡_}
 use mathlib.Core.Bool.{Bool, true, cond}
-use mathlib.Core.List.{List}
-use Prim.Native.Nat.{ℕ, _+_, _-_, _/_, _%_, _^_, _<_}
+use mathlib.Core.List.{List, []}
+use Prim.Native.Nat.{ℕ, zero, suc, _+_, _*_, _-_, _/_, _%_, _^_, _<_}
 use lib.Dec.{eqb}
 use lib.ListN.{getD}
 use Rattle.board.specs.Boards.{rowDigits}
@@ -34,6 +34,20 @@ rowKept w givens at row = allBelow (λ k. markKept (getD givens (at + k) 0) (dig
 -- one more than what a row earns, where it keeps the givens that start at a place of the grid; 0 where it doesn't
 unfoldable pub rowGain : ℕ → List ℕ → ℕ → ℕ → ℕ
 rowGain w givens at row = cond (rowKept w givens at row) (1 + rowWorth w givens at row) 0
+
+-- ---- targets
+-- the marks that a row goes by: those that are lent, and none where a target is lent in their place
+abbrev pub marksOf : Bool → List ℕ → List ℕ
+marksOf target lent = cond target [] lent
+
+-- the number that n bytes of a target read as from a place on: by the last binary digit of each, since any bytes may be lent here
+unfoldable pub targetNumber : List ℕ → ℕ → ℕ → ℕ
+targetNumber lent place zero = 0
+targetNumber lent place (suc n) = 2 * targetNumber lent place n + getD lent (place + n) 0 % 2
+
+-- the row that row i, which is b, has to become: the target's row i, where row 0 is dead; without a target b stays as it is
+abbrev pub targetRow : Bool → ℕ → List ℕ → ℕ → ℕ → ℕ
+targetRow target w lent i b = cond target (cond (eqb i 0) 0 (targetNumber lent ((i - 1) * w) w)) b
 
 -- ---- rows that are held as their left halves
 -- the number of the row of w cells whose left half is c: the number that the cells which c stands for read as

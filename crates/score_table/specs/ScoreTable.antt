@@ -12,41 +12,44 @@ use Rattle.elimination.specs.Sums.{SumRules, sumKind}
 use Rattle.elimination.specs.Task.{Task, fill, row}
 use Rattle.elimination.specs.FillThenChoose.{plan}
 use Rattle.elimination.specs.TwoLayers as Two
-use Rattle.life.specs.Rows.{agree}
-use Rattle.score_table.specs.Rows.{rowWorth, rowKept, digitsOf, rowFor}
+use Rattle.life.specs.Rows.{stepsTo}
+use Rattle.score_table.specs.Rows.{rowWorth, rowKept, marksOf, targetRow, digitsOf, rowFor}
 use Rattle.score_table.specs.declared.Want.{Want}
 
 -- the number that stands for none
 abbrev pub absent : ℕ
 absent = 65535
 
--- what is wanted of a grid: the greatest number of free live cells, among equals the smallest row; a number read above 600 counts as none, and above 1,200
--- where rows are held as their left halves
-abbrev pub mostLive : Bool → Want
-mostLive halves = record { least = false; «greater_first» = false; limit = cond halves 1200 600; halves = halves }
+-- what is wanted: the greatest number of free live cells, or with a target the least number of live cells; among equals the smallest row; a number read
+-- above 600 counts as none, and above 1,200 where rows are held as their left halves
+abbrev pub wantOf : Bool → Bool → Want
+wantOf halves target = record { least = target; «greater_first» = false; limit = cond halves 1200 600; halves = halves; predecessor = target }
 
--- What is asked: the sum of free live cells that is wanted. Row c may stand below a over b where the three agree and c keeps the givens of its
--- row, which start at `givensAt k` with k rows after it; the board may end below a over b where (a, b, 0) and (b, 0, 0) agree. `agreed` is whether
--- three rows agree. a, b and c are numbers, and each goes by the row that it stands for.
-abbrev pub rules : Want → (ℕ → ℕ → ℕ → Bool) → ℕ → (ℕ → ℕ) → List ℕ → SumRules
-rules want agreed w givensAt givens = record {
+-- What is asked: the sum of live cells that is wanted. Row c may stand below a over b where the three step to what b has to become and c keeps the
+-- givens of its row, which start at `givensAt k` with k rows after it; the board may end below a over b where (a, b, 0) do, and (b, 0, 0) step to a dead
+-- row. `steps a b c t` is whether three rows step to t, and `becomes n b` what b has to become with n rows after it: b itself where rows are to agree. a,
+-- b and c are numbers, and each goes by the row that it stands for.
+abbrev pub rules : Want → (ℕ → ℕ → ℕ → ℕ → Bool) → (ℕ → ℕ → ℕ) → ℕ → (ℕ → ℕ) → List ℕ → SumRules
+rules want steps becomes w givensAt givens = record {
   least = want .least;
   greaterFirst = want .«greater_first»;
   absent = absent;
   limit = want .limit;
-  worth = λ k c. rowWorth w givens (givensAt k) (rowFor want w c);
+  worth = λ k c. rowWorth w (marksOf (want .predecessor) givens) (givensAt k) (rowFor want w c);
   codes = 2 ^ digitsOf want w;
-  may = λ k a b c. agreed (rowFor want w a) (rowFor want w b) (rowFor want w c) && rowKept w givens (givensAt k) (rowFor want w c);
-  mayEnd = λ a b. agreed (rowFor want w a) (rowFor want w b) 0 && agreed (rowFor want w b) 0 0;
+  may = λ k a b c.
+      steps (rowFor want w a) (rowFor want w b) (rowFor want w c) (becomes (suc k) (rowFor want w b))
+      && rowKept w (marksOf (want .predecessor) givens) (givensAt k) (rowFor want w c);
+  mayEnd = λ a b. steps (rowFor want w a) (rowFor want w b) 0 (becomes 0 (rowFor want w b)) && steps (rowFor want w b) 0 0 0;
 }
 
--- of a grid of h rows, which agree by `next`: the row with k rows after it has h - k - 1 rows above it
-abbrev pub kindFor : Want → (ℕ → ℕ) → ℕ → ℕ → List ℕ → Kind ℕ
-kindFor want next w h givens = sumKind (rules want (agree next w) w (λ k. (h - suc k) * w) givens)
+-- of a grid of h rows: the row with k rows after it has h - k - 1 rows above it
+abbrev pub rulesFor : Want → (ℕ → ℕ → ℕ → ℕ → Bool) → ℕ → ℕ → List ℕ → SumRules
+rulesFor want steps w h givens = rules want steps (λ n b. targetRow (want .predecessor) w givens (h - n) b) w (λ k. (h - suc k) * w) givens
 
--- by how rows are held
-abbrev pub kindOf : Bool → (ℕ → ℕ) → ℕ → ℕ → List ℕ → Kind ℕ
-kindOf halves next w h givens = kindFor (mostLive halves) next w h givens
+-- whose rows step by `next`
+abbrev pub kindFor : Want → (ℕ → ℕ) → ℕ → ℕ → List ℕ → Kind ℕ
+kindFor want next w h givens = sumKind (rulesFor want (stepsTo next w) w h givens)
 
 -- ---- where entries lie
 -- the place of entry (i, a, b), counted from 0

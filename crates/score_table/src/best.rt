@@ -94,13 +94,14 @@ pub fn best_row(
             j += 1;
         }
         c = x + 1;
-        if !rows::row_kept(w, givens, at, row) {
+        if !rows::row_kept(want.predecessor, w, givens, at, row) {
             continue 'rows;
         }
         let e = table[first + x] as usize;
         if want.limit < e {
             continue 'rows;
         }
-        held = consider(want, held, x, rows::row_worth(w, givens, at, row) + e);
+        let sum = rows::row_worth(want.predecessor, w, givens, at, row) + e;
+        held = consider(want, held, x, sum);
     }
 }

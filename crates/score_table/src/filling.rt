@@ -40,17 +40,18 @@ fn entry_at(
     let n = rows::row_codes(board::row_digits(want.halves, w));
     let a = j / n;
     let b = j % n;
-    let t = rows::row_for(want, w, b);
+    let r = h - k;
+    let row = rows::row_for(want, w, b);
+    let t = rows::target_row(want.predecessor, w, givens, r, row);
     if k == 0 {
-        if !rows::steps_to(next, w, rows::row_for(want, w, a), t, 0, t) {
+        if !rows::steps_to(next, w, rows::row_for(want, w, a), row, 0, t) {
             return NONE;
         }
-        if !rows::steps_to(next, w, t, 0, 0, 0) {
+        if !rows::steps_to(next, w, row, 0, 0, 0) {
             return NONE;
         }
         return 0;
     }
-    let r = h - k;
     match best::best_row(next, want, w, a, b, t, givens, r * w, table, source + b * n) {
         Best::Nothing => NONE,
         Best::Row(_, e) => e as u16,

@@ -9,7 +9,7 @@ ghost use mathlib.Core.Path.{_≡_};
 ghost use Rattle.board.specs.Boards.{maxWidth};
 ghost use Prim.Native.Nat.{_≤_};
 ghost use Rattle.rule.specs.Rule.{entryOf};
-ghost use Rattle.score_table.specs.ScoreTable.{mostLive};
+ghost use Rattle.score_table.specs.ScoreTable.{wantOf};
 ghost use Rattle.score_table.specs.Calls.{gridFits, callFits, layerFits, fillFits, fillWrites, gainOf, rowPicked, pickedOf};
 
 // The number that stands for none.
@@ -25,6 +25,8 @@ pub struct Want {
     pub limit: usize,
     // A row's number is its left half, and the row goes on with its reflection.
     pub halves: bool,
+    // A target is lent in the givens' place: the rows step to its rows, and have no givens. Without one they stay as they are.
+    pub predecessor: bool,
 }
 
 // A row that is chosen, and its worth.
@@ -33,16 +35,18 @@ pub enum Picked {
     Row { row: usize, worth: usize },
 }
 
-// What is wanted of a grid: the most free live cells, 600 at most, or 1,200 where rows are held as their left halves; among equals the smallest row.
-pub fn most_live(halves: bool) -> Want
-    ensures { λ r. ⌜ r ≡ mostLive halves ⌝ }
+// What is wanted: the most free live cells, or with a target the fewest live cells, 600 at most, or 1,200 where rows are held as their left halves; among
+// equals the smallest row.
+pub fn want_of(halves: bool, target: bool) -> Want
+    ensures { λ r. ⌜ r ≡ wantOf halves target ⌝ }
 {
     let limit = if halves { 1200 } else { 600 };
     Want {
-        least: false,
+        least: target,
         greater_first: false,
         limit,
         halves,
+        predecessor: target,
     }
 }
 
@@ -117,12 +121,12 @@ pub fn choose_row(
     }
     let at = r * w;
     let first = source + last * n;
-    let t = rows::row_for(want, w, last);
+    let t = rows::target_row(want.predecessor, w, givens, r, rows::row_for(want, w, last));
     match best::best_row(next, want, w, above, last, t, givens, at, table, first) {
         Best::Nothing => Picked::Nothing,
         Best::Row(row, _) => Picked::Row {
             row,
-            worth: rows::row_worth(w, givens, at, rows::row_for(want, w, row)),
+            worth: rows::row_worth(want.predecessor, w, givens, at, rows::row_for(want, w, row)),
         },
     }
 }
@@ -139,10 +143,10 @@ pub fn row_gain(w: usize, h: usize, r: usize, row: usize, givens: &[u8]) -> usiz
         return 0;
     }
     let at = r * w;
-    if !rows::row_kept(w, givens, at, row) {
+    if !rows::row_kept(false, w, givens, at, row) {
         return 0;
     }
-    rows::row_worth(w, givens, at, row) + 1
+    rows::row_worth(false, w, givens, at, row) + 1
 }
 
 // Whether the givens are those of a grid of a width that fits how rows are held, and of at most 60 rows.

@@ -1,13 +1,14 @@
 // Rows as numbers: a row's cells are its binary digits, the leftmost most significant; or the number is its left half, and its reflection follows.
 use crate::Want;
 ghost use mathlib.Core.Path.{_≡_};
-ghost use Rattle.board.specs.Boards.{maxWidth, maxMirrorWidth, Width};
-ghost use Prim.Native.Nat.{_+_, _<_, _≤_, _^_, _/_, _%_};
-ghost use lib.ListN.{length};
+ghost use mathlib.Core.Bool.{true};
+ghost use Rattle.board.specs.Boards.{maxWidth, maxMirrorWidth, maxHeight, Width};
+ghost use Prim.Native.Nat.{_+_, _*_, _<_, _≤_, _^_, _/_, _%_};
+ghost use lib.ListN.{length, getD};
 ghost use Rattle.rule.specs.Rule.{entryOf};
 ghost use Rattle.life.specs.Rows.{window, stepsTo};
 ghost use Rattle.score_table.specs.Inner.{columnOf, Columns, passes};
-ghost use Rattle.score_table.specs.Rows.{markKept, rowKept, cellWorth, rowWorth, digitsOf, wholeRow, rowFor};
+ghost use Rattle.score_table.specs.Rows.{markKept, rowKept, cellWorth, rowWorth, marksOf, targetRow, digitsOf, wholeRow, rowFor};
 
 // Columns 0 to w + 1 of the widest row.
 const COLUMNS: usize = board::MAX_MIRROR_WIDTH + 2;
@@ -104,13 +105,21 @@ fn mark_kept(mark: u8, cell: usize) -> bool
     }
 }
 
-// Whether a row keeps the givens that start at a place of the grid.
-pub fn row_kept(w: usize, givens: &[u8], at: usize, row: usize) -> bool
+// The mark at a place: none where a target is lent.
+fn mark_at(target: bool, givens: &[u8], p: usize) -> u8
+    requires { ⌜ p < length (now givens) ⌝ }
+    ensures { λ r. ⌜ r ≡ getD (marksOf target (now (givens .entry))) p 0 ⌝ }
+{
+    if target { 0 } else { givens[p] }
+}
+
+// Whether a row keeps the givens that start at a place of the grid, of which there are none where a target is lent.
+pub fn row_kept(target: bool, w: usize, givens: &[u8], at: usize, row: usize) -> bool
     requires { ⌜ (w ≤ maxMirrorWidth) × (at + w ≤ length (now givens)) ⌝ }
-    ensures { λ r. ⌜ r ≡ rowKept w (now (givens .entry)) at row ⌝ }
+    ensures { λ r. ⌜ r ≡ rowKept w (marksOf target (now (givens .entry))) at row ⌝ }
 {
     for k in 0..w {
-        if !mark_kept(givens[at + k], (row >> (w - (k + 1))) % 2) {
+        if !mark_kept(mark_at(target, givens, at + k), (row >> (w - (k + 1))) % 2) {
             return false;
         }
     }
@@ -128,14 +137,38 @@ fn cell_worth(mark: u8, cell: usize) -> usize
     }
 }
 
-// The worth of a row: its live cells that are free, by the givens that start at a place of the grid.
-pub fn row_worth(w: usize, givens: &[u8], at: usize, row: usize) -> usize
+// The worth of a row: its live cells that are free, by the givens that start at a place of the grid; where a target is lent all its live cells.
+pub fn row_worth(target: bool, w: usize, givens: &[u8], at: usize, row: usize) -> usize
     requires { ⌜ (w ≤ maxMirrorWidth) × (at + w ≤ length (now givens)) ⌝ }
-    ensures { λ r. ⌜ (r ≡ rowWorth w (now (givens .entry)) at row) × (r ≤ w) ⌝ }
+    ensures { λ r. ⌜ (r ≡ rowWorth w (marksOf target (now (givens .entry))) at row) × (r ≤ w) ⌝ }
 {
     let mut n = 0;
     for k in 0..w {
-        n += cell_worth(givens[at + k], (row >> (w - (k + 1))) % 2);
+        n += cell_worth(mark_at(target, givens, at + k), (row >> (w - (k + 1))) % 2);
     }
     n
+}
+
+// The row that row i, which is b, has to become: the target's; without a target b stays as it is.
+pub fn target_row(target: bool, w: usize, lent: &[u8], i: usize, b: usize) -> usize
+    requires { ⌜ (w ≤ maxMirrorWidth) × (b < 2 ^ w) × (i ≤ maxHeight) × (w * i ≤ length (now lent)) ⌝ }
+    ensures { λ r. ⌜ (r ≡ targetRow target w (now (lent .entry)) i b) × (r < 2 ^ w) ⌝ }
+{
+    if target { lent_row(w, lent, i) } else { b }
+}
+
+// Row i of a target; row 0 is dead.
+fn lent_row(w: usize, lent: &[u8], i: usize) -> usize
+    requires { ⌜ (w ≤ maxMirrorWidth) × (i ≤ maxHeight) × (w * i ≤ length (now lent)) ⌝ }
+    ensures { λ r. ⌜ (r ≡ targetRow true w (now (lent .entry)) i 0) × (r < 2 ^ w) ⌝ }
+{
+    if i == 0 {
+        return 0;
+    }
+    let at = (i - 1) * w;
+    let mut t = 0;
+    for k in 0..w {
+        t = 2 * t + (lent[at + k] % 2) as usize;
+    }
+    t
 }

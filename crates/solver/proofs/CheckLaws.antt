@@ -12,6 +12,9 @@ use Rattle.board.specs.Checks.{lengthCheck, tableSize, tableCheck}
 use Rattle.board.proofs.Answers.{then-gives, unless-gives, checked-then, checked-unless}
 use Rattle.edges.proofs.Theorems.{edge-checked}
 use Rattle.job.specs.Jobs.{kindDigits, layersOf, pauseRule, readCheck}
+use Rattle.job.specs.declared.Kind.{Kind}
+use Rattle.rule.specs.declared.Rule.{Rule}
+use Rattle.solver.specs.Grid.{TargetCells}
 use Rattle.job.proofs.ReadChecks.{read-marks, read-checked}
 use Rattle.service.specs.Service.{workCheck}
 use Rattle.service.specs.Laws.{ChecksSound}
@@ -25,6 +28,10 @@ use Rattle.job.specs.declared.Job.{Job}
 -- a job that pausing turns away is turned away here, with the same refusal
 pub pause-refused : (j : Job) (g t β : List ℕ) {n : ℕ} {us : List ℕ} → refuses n us ≡ pauseRule j → refuses n us ≡ workCheck grid j g t β
 pause-refused j g t β e = Shared.pause-refused grid j g t β e
+
+-- the checks of what is read have shown a target's cells, where the job has a target
+pub target-cells : (kind : Kind) (rule : Rule) (w h : ℕ) (g : List ℕ) {values : List ℕ} → readCheck kind rule w h g ≡ gives values → TargetCells kind w h g
+target-cells kind rule w h g e t = rw t at (read-marks kind rule w h g e)
 
 module _ (j : Job) (g t β : List ℕ) where
   abbrev entriesCheck : Answer
@@ -50,6 +57,11 @@ module _ (j : Job) (g t β : List ℕ) where
         eqb-true (length β) (j .width * j .height) (unless-gives (eqb (length β) (j .width * j .height)) 5 (c .0 .1)),
         leb-true (tableSize (kindDigits (j .kind) (j .width)) (layersOf (j .kind) (j .height))) (length t) (unless-gives (leb (tableSize (kindDigits (j .kind) (j .width)) (layersOf (j .kind) (j .height))) (length t)) 6 (c .1)),
       )
+
+  pub lent-target : {values : List ℕ} → lentCheck j g t β ≡ gives values → TargetCells (j .kind) (j .width) (j .height) g
+  unfolding lentCheck
+  lent-target e =
+      target-cells (j .kind) (j .rule) (j .width) (j .height) g (then-gives (readCheck (j .kind) (j .rule) (j .width) (j .height) g) (cellsCheck then entriesCheck) e .0 .1)
 
   pub lent-of : {values : List ℕ} → workCheck grid j g t β ≡ gives values → Lent j g t β
   unfolding lentCheck

@@ -1,5 +1,5 @@
 -- Rows by how they are held: the number that a row is held as stands for the row, where rows are held as their left halves too, and so a board is its
--- numbers.
+-- numbers. And what a solution of a job of any kind shows.
 -- Assumes nothing.
 use mathlib.Core.Path.{_≡_, refl, sym, _∙_, ap}
 use mathlib.Core.Bool.{Bool, true, false, cond, false≢true}
@@ -20,16 +20,19 @@ use Rattle.elimination.proofs.Numbers.{lt-or-ge}
 use Rattle.mirror.specs.Mirror.{Mirrored}
 use Rattle.mirror.proofs.Theorems.{mirrored-cells}
 use Rattle.rule.specs.declared.Rule.{Rule}
+use Rattle.job.specs.Jobs.{halvesOf, hasTarget}
+use Rattle.job.specs.declared.Kind.{Kind}
+use Rattle.life.specs.Plane.{onPlane, Still, LeadsTo}
 use Rattle.life.specs.Rows.{rowNumber, rowOf, digitAt}
 use Rattle.life.proofs.OnPlane.{state-small}
 use Rattle.life.proofs.Rows.{number-lt, cell-is}
 use Rattle.board_rows.specs.Rows.{rowCell, readRow}
 use Rattle.board_rows.proofs.Writing.{cell-left, digits-read}
 use Rattle.board_rows.proofs.Theorems.{reads-as-row, row-reflects}
-use Rattle.score_table.specs.Rows.{wholeRow, rowFor}
-use Rattle.score_table.specs.ScoreTable.{mostLive}
+use Rattle.score_table.specs.Rows.{marksOf, wholeRow, rowFor}
+use Rattle.score_table.specs.ScoreTable.{wantOf}
 use Rattle.score_table.proofs.WholeRows.{whole-lt, whole-cell}
-use Rattle.solver.specs.Grid.{Solution, SolutionBy, BoardBy, halfOf, heldRow}
+use Rattle.solver.specs.Grid.{KeepsGivens, Solution, SolutionBy, BoardBy, halfOf, heldRow}
 use Rattle.solver.proofs.RowLaws.{row-none, same-rows}
 
 -- ---- the number that a row is held as
@@ -55,6 +58,10 @@ pub held-lt : (halves : Bool) {w h : ℕ} {cells : List ℕ} → Bytes 1 w h cel
 held-lt halves {w} {h} {cells} b r l = rw (held-reads halves w h r cells l) (number-lt cells (state-small b) (r * w) (rowDigits halves w))
 
 -- ---- the row that it stands for
+-- by how rows are held: any other want that holds them so says the same
+abbrev pub standsFor : Bool → ℕ → ℕ → ℕ
+standsFor halves w c = rowFor (wantOf halves false) w c
+
 -- 0 stands for the dead row
 dead-cell : (bits k : ℕ) → rowCell bits 0 k ≡ 0
 dead-cell bits k = go (ltb k bits)
@@ -71,7 +78,7 @@ whole-none w =
     let z : 0 + k ≡ k = omega arith in
     rw (z, getD-listed (rowCell (w / 2) 0) w k l, dead-cell (w / 2) k, zero-div (2 ^ (w - (k + 1)))))
 
-row-for-none : (halves : Bool) (w : ℕ) → rowFor (mostLive halves) w 0 ≡ 0
+row-for-none : (halves : Bool) (w : ℕ) → standsFor halves w 0 ≡ 0
 row-for-none true w = whole-none w
 row-for-none false w = refl
 
@@ -96,14 +103,14 @@ module _ {w h : ℕ} {cells : List ℕ} (even : w % 2 ≡ 0) (b : Bytes 1 w h ce
   whole-half : wholeRow w half ≡ rowNumber cells (r * w) w
   whole-half = sym (digits-read w (wholeRow w half) (whole-lt w half) cells (r * w) (λ k l. sym (half-cell k l) ∙ sym (whole-cell w half k l)))
 
-pub row-held : (halves : Bool) {w h : ℕ} {cells : List ℕ} → BoardBy halves w h cells → (r : ℕ) → r ≤ h → rowFor (mostLive halves) w (heldRow halves w h cells r) ≡ rowOf w h cells r
+pub row-held : (halves : Bool) {w h : ℕ} {cells : List ℕ} → BoardBy halves w h cells → (r : ℕ) → r ≤ h → standsFor halves w (heldRow halves w h cells r) ≡ rowOf w h cells r
 row-held true {w} {h} {cells} B zero l = rw (held-none true w h cells, row-none w h cells) (whole-none w)
 row-held true {w} {h} {cells} B (suc r) l =
     rw (held-reads true w h r cells l, reads-as-row w h r cells l) (whole-half (B .size .width .even refl) (B .bytes) (B .mirrored refl) r l)
 row-held false B r l = refl
 
 pub previous-held : (halves : Bool) {w h : ℕ} {cells : List ℕ} → BoardBy halves w h cells → (r : ℕ) → r ≤ h
-    → rowFor (mostLive halves) w (previousRow (heldRow halves w h cells) r) ≡ previousRow (rowOf w h cells) r
+    → standsFor halves w (previousRow (heldRow halves w h cells) r) ≡ previousRow (rowOf w h cells) r
 previous-held halves {w} B zero l = row-for-none halves w
 previous-held halves B (suc r) l = row-held halves B r (omega arith)
 
@@ -112,7 +119,7 @@ pub same-held : (halves : Bool) {w h : ℕ} {cells others : List ℕ} → BoardB
     → ((r : ℕ) → r < h → heldRow halves w h cells (suc r) ≡ heldRow halves w h others (suc r)) → cells ≡ others
 same-held halves {w} B O e =
     same-rows (B .size .some-column) (B .bytes) (O .bytes)
-    (λ r l. sym (row-held halves B (suc r) l) ∙ ap (rowFor (mostLive halves) w) (e r l) ∙ row-held halves O (suc r) l)
+    (λ r l. sym (row-held halves B (suc r) l) ∙ ap (standsFor halves w) (e r l) ∙ row-held halves O (suc r) l)
 
 -- each cell of the first n rows is the one that its row's number has there; a board of such rows is a mirror board where they are held as left halves
 abbrev pub HeldCells : Bool → ℕ → ℕ → List ℕ → ℕ → Type 0
@@ -127,16 +134,38 @@ held-mirrored true {w} {h} cells z long S _ =
     S r (w - 1 - k) l (omega arith) ∙ rw e at (row-reflects (w / 2) (heldRow true w h cells (suc r)) k (omega (arith, even))) ∙ sym (S r k l q))
 held-mirrored false cells z long S e = absurd (false≢true e)
 
--- ---- solutions, by how rows are held
+-- ---- solutions, by the kind of job
+-- what a solution shows: one step makes it the target, or itself where there is none, and it keeps the givens, of which there are none with a target
+pub record Comes (target : Bool) (rule : Rule) (w h : ℕ) (g board : List ℕ) : Type 0 where
+  pub leads : LeadsTo rule (onPlane w h board) (onPlane w h (cond target g board))
+  pub keeps : KeepsGivens w h (marksOf target g) board
+
 module _ {rule : Rule} {w h : ℕ} {g board : List ℕ} where
-  pub solution-plain : (halves : Bool) → SolutionBy halves rule w h g board → Solution rule w h g board
-  solution-plain true S = S .solution
-  solution-plain false S = S
+  still-comes : Solution rule w h g board → Comes false rule w h g board
+  unfolding Still LeadsTo
+  still-comes S = record { leads = S .still; keeps = S .keeps }
 
-  pub solution-of : (halves : Bool) → BoardBy halves w h board → Solution rule w h g board → SolutionBy halves rule w h g board
-  solution-of true B S = record { solution = S; mirrored = B .mirrored refl }
-  solution-of false B S = S
+  comes-still : Bytes 1 w h board → Comes false rule w h g board → Solution rule w h g board
+  unfolding Still LeadsTo
+  comes-still b C = record { bytes = b; still = C .leads; keeps = C .keeps }
 
-pub solution-board : (halves : Bool) (rule : Rule) {w h : ℕ} (g board : List ℕ) → SizedBy halves w h → SolutionBy halves rule w h g board → BoardBy halves w h board
-solution-board true rule g board z S = record { size = z; bytes = S .solution .bytes; mirrored = λ _. S .mirrored }
-solution-board false rule g board z S = record { size = z; bytes = S .bytes; mirrored = λ e. absurd (false≢true e) }
+  pub comes : (kind : Kind) → SolutionBy kind rule w h g board → Comes (hasTarget kind) rule w h g board
+  comes Kind.Ordinary S = still-comes S
+  comes Kind.TwoLayers S = still-comes S
+  comes Kind.Mirror S = still-comes (S .solution)
+  comes Kind.Predecessor S = record { leads = S .leads; keeps = record { dead = λ p l e. absurd (omega arith); live = λ p l e. absurd (omega arith) } }
+
+  pub solution-of : (kind : Kind) → BoardBy (halvesOf kind) w h board → Comes (hasTarget kind) rule w h g board → SolutionBy kind rule w h g board
+  solution-of Kind.Ordinary B C = comes-still (B .bytes) C
+  solution-of Kind.TwoLayers B C = comes-still (B .bytes) C
+  solution-of Kind.Mirror B C = record { solution = comes-still (B .bytes) C; mirrored = B .mirrored refl }
+  solution-of Kind.Predecessor B C = record { bytes = B .bytes; leads = C .leads }
+
+whole-board : {w h : ℕ} {board : List ℕ} → SizedBy false w h → Bytes 1 w h board → BoardBy false w h board
+whole-board z b = record { size = z; bytes = b; mirrored = λ e. absurd (false≢true e) }
+
+pub solution-board : (kind : Kind) (rule : Rule) {w h : ℕ} (g board : List ℕ) → SizedBy (halvesOf kind) w h → SolutionBy kind rule w h g board → BoardBy (halvesOf kind) w h board
+solution-board Kind.Ordinary rule g board z S = whole-board z (S .bytes)
+solution-board Kind.TwoLayers rule g board z S = whole-board z (S .bytes)
+solution-board Kind.Mirror rule g board z S = record { size = z; bytes = S .solution .bytes; mirrored = λ _. S .mirrored }
+solution-board Kind.Predecessor rule g board z S = whole-board z (S .bytes)

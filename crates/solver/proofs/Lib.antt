@@ -1,4 +1,5 @@
 -- The laws of this crate that belong to no one function, and its theorems. Each file builds on those above it.
+pub mod Counts
 pub mod RowLaws
 pub mod HeldRows
 pub mod Endings

@@ -6,19 +6,18 @@ use Prim.Native.Nat.{ℕ, suc, _*_, _-_}
 use native.Mathlib.Omega.{arith}
 use Rattle.elimination.specs.Job as Elimination
 use Rattle.rule.specs.declared.Rule.{Rule}
-use Rattle.job.specs.Jobs.{halvesOf, shapeOf}
+use Rattle.job.specs.Jobs.{hasTarget, shapeOf}
 use Rattle.job.specs.declared.Kind.{Kind}
 use Rattle.job.proofs.Shapes.{shape-lawful}
 use Rattle.job.proofs.Fits.{Frame}
-use Rattle.score_table.specs.Rows.{rowFor}
-use Rattle.score_table.specs.ScoreTable.{mostLive}
+use Rattle.score_table.specs.Rows.{marksOf, rowFor}
 use Rattle.score_table.proofs.Marks.{row-worth-le}
 use Rattle.service.specs.Laws.{Follows}
 use Rattle.service.specs.Units.{unitBy, Numbered}
 use Rattle.service.proofs.Numbers.{continues}
 use Rattle.service.proofs.Units as Shared
 use Rattle.solver.specs.Working.{lentCheck}
-use Rattle.solver.specs.Units.{State, setupOf, unitOf, grid}
+use Rattle.solver.specs.Units.{State, wantBy, setupOf, unitOf, grid}
 use Rattle.solver.specs.Demand.{Of}
 
 module _ (kind : Kind) {rule : Rule} {w h : ℕ} (z : Frame kind rule w h) (g : List ℕ) where
@@ -29,7 +28,7 @@ module _ (kind : Kind) {rule : Rule} {w h : ℕ} (z : Frame kind rule w h) (g : 
     rows = refl;
     codes = refl;
     is = λ j O. rw (O .kept, O .wide, O .tall);
-    earns = λ k c n. omega (arith, row-worth-le w g ((h - suc k) * w) (rowFor (mostLive (halvesOf kind)) w c));
+    earns = λ k c n. omega (arith, row-worth-le w (marksOf (hasTarget kind) g) ((h - suc k) * w) (rowFor (wantBy kind) w c));
     same = λ j t O a b c d. record { kept = O .kept; ruled = ap₂ (λ (x y : ℕ). record { births = x; survivals = y }) c d ∙ O .ruled; wide = a ∙ O .wide; tall = b ∙ O .tall };
   }
 

@@ -1,4 +1,4 @@
--- The board of the rows that row elimination chooses is the optimal board, wherever they are written.
+-- The board of the rows that row elimination chooses is the wanted board, wherever they are written.
 -- Assumes nothing.
 use mathlib.Core.Path.{_≡_, refl, sym, _∙_, ap, ap₂, subst}
 use mathlib.Core.Bool.{Bool, false}
@@ -7,10 +7,10 @@ use mathlib.Core.Logic.{inl, inr, ⊎-elim}
 use Prim.Native.Nat.{ℕ, zero, suc, _+_, _*_, _-_, _^_, _≤_, _<_}
 use native.Mathlib.Nat.{mul-le-mul-right, mul-comm}
 use native.Mathlib.Omega.{arith}
-use borrow.Author.Tests.{ltb-true, ltb-false}
+use borrow.Author.Tests.{ltb-true}
 use lib.ListN.{length, getD, replicate, length-replicate}
 use Rattle.board.specs.Boards.{rowDigits, SizedBy}
-use Rattle.elimination.specs.Kind.{Kind}
+use Rattle.elimination.specs.Kind as Elimination
 use Rattle.elimination.specs.Endings.{Ending, total, BestEnding}
 use Rattle.elimination.specs.Boards.{rowsFrom, Earlier, BoardLaws, BestBoard}
 use Rattle.elimination.specs.Completion.{writeRows}
@@ -21,14 +21,18 @@ use Rattle.elimination.proofs.Endings.{ending-length}
 use Rattle.elimination.proofs.Boards.{from-at, board-total, best-board}
 use Rattle.rule.specs.Rule.{Allowed}
 use Rattle.rule.specs.declared.Rule.{Rule}
-use Rattle.solver.specs.Grid.{SolutionBy, BoardBy, heldRow, score, Precedes, OptimalBy}
+use Rattle.job.specs.Jobs.{halvesOf, hasTarget}
+use Rattle.job.specs.declared.Kind.{Kind}
+use Rattle.solver.specs.Grid.{SolutionBy, TargetCells, BoardBy, heldRow, countBy, Precedes, OptimalBy}
+use Rattle.solver.specs.Units.{gridRows}
 use Rattle.board_rows.specs.Rows.{rowCell, putRow, readRow}
 use Rattle.board_rows.proofs.Writing.{written-cell, cell-small}
 use Rattle.board_rows.proofs.Theorems.{row-writer}
 use Rattle.solver.specs.Theorems.{allRows}
 use Rattle.solver.proofs.RowLaws.{Place, place}
 use Rattle.solver.proofs.HeldRows.{digits-le, held-none, held-reads, same-held, HeldCells, held-mirrored, solution-board}
-use Rattle.solver.proofs.Endings.{kind, kind-laws, solution-ends, ends-solution, total-score}
+use Rattle.solver.proofs.Counts.{not-worse}
+use Rattle.solver.proofs.Endings.{kind-laws, solution-ends, ends-solution, total-count}
 
 -- ---- one row written: the row with r rows above it becomes c
 -- a grid's rows stand in its board, with a binary digit for each cell or for each of the left half
@@ -65,7 +69,7 @@ abbrev Below : ℕ → List ℕ → Type 0
 Below n [] = Unit {0}
 Below n (c ∷ cs) = (c < n) × Below n cs
 
-ends-rows : (G : Kind ℕ) (k a b : ℕ) (cs : List ℕ) → Ending G k a b cs → Below (G .codes) cs
+ends-rows : (G : Elimination.Kind ℕ) (k a b : ℕ) (cs : List ℕ) → Ending G k a b cs → Below (G .codes) cs
 ends-rows G zero a b [] e = tt
 ends-rows G zero a b (c ∷ cs) e = absurd e
 ends-rows G (suc k) a b [] e = absurd e
@@ -176,41 +180,46 @@ precedes halves w h board other E = record { row = suc (E .place); inside = E .i
     equal zero l = held-none halves w h board ∙ sym (held-none halves w h other)
     equal (suc r) l = E .equal r (omega arith)
 
--- ---- the optimal board
-module _ {rule : Rule} (allowed : Allowed rule) {halves : Bool} {w h : ℕ} (z : SizedBy halves w h) (g : List ℕ) where
-  rows-of : (cs : List ℕ) → Ending (kind halves rule w h g) h 0 0 cs → RowNumbers halves w h cs
-  rows-of cs E = record { low = ends-rows (kind halves rule w h g) h 0 0 cs E; many = ending-length (kind halves rule w h g) h 0 0 cs E }
+-- ---- the wanted board
+module _ (kind : Kind) {rule : Rule} (allowed : Allowed rule) {w h : ℕ} (z : SizedBy (halvesOf kind) w h) (g : List ℕ) (T : TargetCells kind w h g) where
+  abbrev halves : Bool
+  halves = halvesOf kind
 
-  board-by : (b : List ℕ) → SolutionBy halves rule w h g b → BoardBy halves w h b
-  board-by b S = solution-board halves rule g b z S
+  rows-of : (cs : List ℕ) → Ending (gridRows kind rule w h g) h 0 0 cs → RowNumbers halves w h cs
+  rows-of cs E = record { low = ends-rows (gridRows kind rule w h g) h 0 0 cs E; many = ending-length (gridRows kind rule w h g) h 0 0 cs E }
+
+  board-by : (b : List ℕ) → SolutionBy kind rule w h g b → BoardBy halves w h b
+  board-by b S = solution-board kind rule g b z S
 
   -- a grid's boards are tied to its endings
-  pub grid-boards : BoardLaws (kind halves rule w h g) h (heldRow halves w h) (SolutionBy halves rule w h g) (score w h g) (boardOf halves w h)
+  pub grid-boards : BoardLaws (gridRows kind rule w h g) h (heldRow halves w h) (SolutionBy kind rule w h g) (countBy (hasTarget kind) w h g) (boardOf halves w h)
   grid-boards = record {
-    ends = λ b S. solution-ends halves allowed (board-by b S) g S;
+    ends = λ b S. solution-ends kind allowed (board-by b S) g T S;
     solves = λ cs E.
         let R = rows-of cs E in
-        ends-solution halves allowed (into-board z R (blank w h) (blank-size w h)) g (rw (into-rows z R (blank w h) (blank-size w h)) E);
+        ends-solution kind allowed (into-board z R (blank w h) (blank-size w h)) g T (rw (into-rows z R (blank w h) (blank-size w h)) E);
     rows = λ cs E. into-rows z (rows-of cs E) (blank w h) (blank-size w h);
-    same = λ a b S T e. same-held halves (board-by a S) (board-by b T) e;
-    counts = λ b S. total-score halves allowed (board-by b S) g;
+    same = λ a b S S′ e. same-held halves (board-by a S) (board-by b S′) e;
+    counts = λ b S. total-count kind allowed (board-by b S) g T;
   }
 
-  pub grid-into : (cs : List ℕ) → Ending (kind halves rule w h g) h 0 0 cs → (β : List ℕ) → length β ≡ w * h → writtenInto halves w cs β ≡ boardOf halves w h cs
+  pub grid-into : (cs : List ℕ) → Ending (gridRows kind rule w h g) h 0 0 cs → (β : List ℕ) → length β ≡ w * h → writtenInto halves w cs β ≡ boardOf halves w h cs
   grid-into cs E = into-same z (rows-of cs E)
 
-  -- the best board is the optimal one
-  pub optimal-of : {board : List ℕ} → BestBoard (kind halves rule w h g) h (heldRow halves w h) (SolutionBy halves rule w h g) (score w h g) board → OptimalBy halves rule w h g board
+  -- the best board is the wanted one
+  pub optimal-of : {board : List ℕ} → BestBoard (gridRows kind rule w h g) h (heldRow halves w h) (SolutionBy kind rule w h g) (countBy (hasTarget kind) w h g) board
+      → OptimalBy kind rule w h g board
   optimal-of {board} B = record {
     solution = B .solution;
-    most = λ other S. ltb-false (score w h g board) (score w h g other) (B .unbeaten other S);
+    unbeaten = λ other S. not-worse (hasTarget kind) _ _ (B .unbeaten other S);
     earliest = λ other S q.
-        ⊎-elim inl (λ (E : Earlier false h (heldRow halves w h board) (heldRow halves w h other)). inr (precedes halves w h board other E)) (B .earliest other S (equal-tied false q));
+        ⊎-elim inl (λ (E : Earlier false h (heldRow halves w h board) (heldRow halves w h other)). inr (precedes halves w h board other E))
+        (B .earliest other S (equal-tied (hasTarget kind) q));
   }
 
-  module _ {x : ℕ} {cs : List ℕ} (T : BestEnding (kind halves rule w h g) h 0 0 x cs) where
-    pub is-total : score w h g (boardOf halves w h cs) ≡ total (kind halves rule w h g) cs
-    is-total = board-total grid-boards T
+  module _ {x : ℕ} {cs : List ℕ} (E : BestEnding (gridRows kind rule w h g) h 0 0 x cs) where
+    pub is-total : countBy (hasTarget kind) w h g (boardOf halves w h cs) ≡ total (gridRows kind rule w h g) cs
+    is-total = board-total grid-boards E
 
-    pub optimal : OptimalBy halves rule w h g (boardOf halves w h cs)
-    optimal = optimal-of (best-board grid-boards T (kind-laws halves rule w h g z))
+    pub optimal : OptimalBy kind rule w h g (boardOf halves w h cs)
+    optimal = optimal-of (best-board grid-boards E (kind-laws kind rule w h g z))

@@ -21,24 +21,22 @@ use Rattle.elimination.proofs.FillThenChoose.{stands, writes-not}
 use Rattle.elimination.proofs.Table.{right-at-entry}
 use Rattle.elimination.proofs.Progress.{worth-none, worth-more}
 use Rattle.rule.specs.declared.Rule.{Rule}
-use Rattle.board.specs.Boards.{rowDigits}
 use Rattle.life.specs.Rows.{rowOf}
-use Rattle.score_table.specs.Rows.{rowWorth, rowFor}
+use Rattle.score_table.specs.Rows.{rowWorth, marksOf}
 use Rattle.service.specs.JobKinds.{rowsIn}
-use Rattle.job.specs.Jobs.{halvesOf, kindDigits, boardLength, planOf, chosenIn, shapeOf, aboveOf, lastOf, liveOf, markOf, numbersOf, jobFits}
+use Rattle.job.specs.Jobs.{halvesOf, hasTarget, kindDigits, boardLength, planOf, chosenIn, shapeOf, aboveOf, lastOf, liveOf, markOf, numbersOf, jobFits}
 use Rattle.job.specs.declared.Kind.{Kind}
 use Rattle.job.proofs.Shapes.{shape-rounds, shape-orderly, shorter, chosen-once, rows-are-choosing-units}
 use Rattle.job.proofs.Fits.{Frame, numbers-at, fits-numbers}
 use Rattle.board.proofs.Powers.{four-two, table-four}
-use Rattle.score_table.specs.ScoreTable.{mostLive, twoLayerPlace, InPlace}
+use Rattle.score_table.specs.ScoreTable.{twoLayerPlace, InPlace}
 use Rattle.score_table.proofs.Places.{place-same, two-layers-right}
-use Rattle.solver.specs.Grid.{BoardBy, heldRow, score, OptimalBy}
-use Rattle.solver.specs.Units.{State, setupOf}
+use Rattle.solver.specs.Grid.{BoardBy, heldRow, score, countBy, OptimalBy}
+use Rattle.solver.specs.Units.{State, gridRows, setupOf}
 use Rattle.solver.specs.Demand.{rightUnit, FilledTo, TwoLayersTo, TableAfter, Progress, Of, gridKind}
-use Rattle.solver.proofs.RowLaws.{score-more, score-none}
-use Rattle.solver.proofs.HeldRows.{held-none, held-reads, row-held, solution-board}
+use Rattle.solver.proofs.RowLaws.{score-more, score-none, count-score}
+use Rattle.solver.proofs.HeldRows.{held-none, held-reads, standsFor, row-held, solution-board}
 use Rattle.board_rows.specs.Rows.{readRow}
-use Rattle.solver.proofs.Endings.{kind}
 
 -- at most as many units are done as a job with a board has
 units-few : (jobKind : Kind) (w h u m : ℕ) → 0 < h → Units (shapeOf jobKind w h) u m → u ≤ boardLength jobKind w h
@@ -59,16 +57,16 @@ units-are jobKind w h u m high U = go m U (rows-are-choosing-units jobKind w h u
     go m (fails e) s = omega (arith, s, ap (chosenIn jobKind w h) e, chosen-once jobKind w h high)
 
 -- the table: its right numbers are row elimination's, where a row's number has d binary digits
-module _ (halves : Bool) (rule : Rule) (w h : ℕ) (g : List ℕ) where
+module _ (jobKind : Kind) (rule : Rule) (w h : ℕ) (g : List ℕ) where
   abbrev d : ℕ
-  d = rowDigits halves w
+  d = kindDigits jobKind w
 
-  right-same : (u : ℕ) → rightUnit halves rule w h g u ≡ rightAt (kind halves rule w h g) (u / (2 ^ d * 2 ^ d)) (u % (2 ^ d * 2 ^ d))
+  right-same : (u : ℕ) → rightUnit jobKind rule w h g u ≡ rightAt (gridRows jobKind rule w h g) (u / (2 ^ d * 2 ^ d)) (u % (2 ^ d * 2 ^ d))
   unfolding rightUnit
-  right-same u = rw (four-two d) (sym (right-at-entry (kind halves rule w h g) (u / (2 ^ d * 2 ^ d)) (u % (2 ^ d * 2 ^ d))))
+  right-same u = rw (four-two d) (sym (right-at-entry (gridRows jobKind rule w h g) (u / (2 ^ d * 2 ^ d)) (u % (2 ^ d * 2 ^ d))))
 
   table-filled : (m n : ℕ) → m ≡ n + (m - tableSize d h) → (t₀ t : List ℕ)
-      → Places.Filled (kind halves rule w h g) (Whole.plan h (2 ^ d * 2 ^ d)) m t₀ t → FilledTo halves rule w h g n t₀ t
+      → Places.Filled (gridRows jobKind rule w h g) (Whole.plan h (2 ^ d * 2 ^ d)) m t₀ t → FilledTo jobKind rule w h g n t₀ t
   table-filled m n split t₀ t F = record {
     size = F .size;
     right = λ u l.
@@ -96,23 +94,25 @@ stands-half w h v k source target j l e =
     subst (InPlace (twoLayerPlace w) w h) e (two-layers-right w h v (rw long l)) .0
 
 two-layers-filled : (rule : Rule) (w h : ℕ) (g : List ℕ) (m : ℕ) → m ≤ boardLength Kind.TwoLayers w h → (t₀ t : List ℕ)
-    → Places.Filled (kind false rule w h g) (planOf Kind.TwoLayers w h) m t₀ t → TwoLayersTo rule w h g m t₀ t
+    → Places.Filled (gridRows Kind.TwoLayers rule w h g) (planOf Kind.TwoLayers w h) m t₀ t → TwoLayersTo rule w h g m t₀ t
 two-layers-filled rule w h g m few t₀ t F = record {
   size = F .size;
   stands = λ p k j S. S .place ∙ stands-half w h (S .unit) k (S .source) (S .target) j (omega (arith, S .before)) (S .fills);
-  right = λ p k j S. F .right p k j S ∙ right-at-entry (kind false rule w h g) k j;
+  right = λ p k j S. F .right p k j S ∙ right-at-entry (gridRows Kind.TwoLayers rule w h g) k j;
   rest = F .rest;
   past = λ p b. F .rest p (λ v l. writes-past w h v p (omega arith) b);
 }
 
 -- by the kind
 table-after : (jobKind : Kind) (rule : Rule) (w h : ℕ) (g : List ℕ) (m : ℕ) → 0 < h → m ≤ boardLength jobKind w h → (t₀ t : List ℕ)
-    → Places.Filled (kind (halvesOf jobKind) rule w h g) (planOf jobKind w h) m t₀ t → TableAfter jobKind rule w h g m t₀ t
+    → Places.Filled (gridRows jobKind rule w h g) (planOf jobKind w h) m t₀ t → TableAfter jobKind rule w h g m t₀ t
 table-after Kind.Ordinary rule w h g m high few t₀ t F =
-    table-filled false rule w h g m (entriesFilled (planOf Kind.Ordinary w h) m) (rows-are-choosing-units Kind.Ordinary w h m high few) t₀ t F
+    table-filled Kind.Ordinary rule w h g m (entriesFilled (planOf Kind.Ordinary w h) m) (rows-are-choosing-units Kind.Ordinary w h m high few) t₀ t F
 table-after Kind.TwoLayers rule w h g m high few t₀ t F = two-layers-filled rule w h g m few t₀ t F
 table-after Kind.Mirror rule w h g m high few t₀ t F =
-    table-filled true rule w h g m (entriesFilled (planOf Kind.Mirror w h) m) (rows-are-choosing-units Kind.Mirror w h m high few) t₀ t F
+    table-filled Kind.Mirror rule w h g m (entriesFilled (planOf Kind.Mirror w h) m) (rows-are-choosing-units Kind.Mirror w h m high few) t₀ t F
+table-after Kind.Predecessor rule w h g m high few t₀ t F =
+    table-filled Kind.Predecessor rule w h g m (entriesFilled (planOf Kind.Predecessor w h) m) (rows-are-choosing-units Kind.Predecessor w h m high few) t₀ t F
 
 module _ (jobKind : Kind) {rule : Rule} {w h : ℕ} (z : Frame jobKind rule w h) (g : List ℕ) where
   abbrev halves : Bool
@@ -129,23 +129,30 @@ module _ (jobKind : Kind) {rule : Rule} {w h : ℕ} (z : Frame jobKind rule w h)
   row-same wanted zero l = sym (held-none halves w h wanted)
   row-same wanted (suc r) l = sym (held-reads halves w h r wanted l)
 
+  abbrev marks : List ℕ
+  marks = marksOf (hasTarget jobKind) g
+
   -- what the first k rows of a board are worth is their score
-  worth-score : {wanted : List ℕ} → BoardBy halves w h wanted → (k : ℕ) → k ≤ h → worthSoFar setup reads wanted k ≡ score w k g wanted
-  worth-score {wanted} B zero l = worth-none setup reads wanted ∙ sym (score-none w g wanted)
+  worth-score : {wanted : List ℕ} → BoardBy halves w h wanted → (k : ℕ) → k ≤ h → worthSoFar setup reads wanted k ≡ score w k marks wanted
+  worth-score {wanted} B zero l = worth-none setup reads wanted ∙ sym (score-none w marks wanted)
   worth-score {wanted} B (suc r) l =
       let e : h - suc (h - suc r) ≡ r = omega arith in
-      let c : rowFor (mostLive halves) w (reads r wanted) ≡ rowOf w h wanted (suc r) = ap (rowFor (mostLive halves) w) (row-same wanted (suc r) l) ∙ row-held halves B (suc r) l in
-      let m : rowWorth w g ((h - suc (h - suc r)) * w) (rowFor (mostLive halves) w (reads r wanted)) ≡ rowWorth w g (r * w) (rowOf w h wanted (suc r)) =
-      ap₂ (λ (x y : ℕ). rowWorth w g (x * w) y) e c in
-      worth-more setup reads wanted r ∙ omega (arith, m, worth-score B r (omega arith), score-more (B .bytes) g r l)
+      let c : standsFor halves w (reads r wanted) ≡ rowOf w h wanted (suc r) = ap (standsFor halves w) (row-same wanted (suc r) l) ∙ row-held halves B (suc r) l in
+      let m : rowWorth w marks ((h - suc (h - suc r)) * w) (standsFor halves w (reads r wanted)) ≡ rowWorth w marks (r * w) (rowOf w h wanted (suc r)) =
+      ap₂ (λ (x y : ℕ). rowWorth w marks (x * w) y) e c in
+      worth-more setup reads wanted r ∙ omega (arith, m, worth-score B r (omega arith), score-more (B .bytes) marks r l)
 
-  carried-score : (wanted : List ℕ) (k x : ℕ) → (0 < k → OptimalBy halves rule w h g wanted) → k ≤ h → x ≡ worthSoFar setup reads wanted k → x ≡ score w k g wanted
-  carried-score wanted zero x o l e = e ∙ worth-none setup reads wanted ∙ sym (score-none w g wanted)
-  carried-score wanted (suc k) x o l e = e ∙ worth-score (solution-board halves rule g wanted (z .size) (o (omega arith) .solution)) (suc k) l
+  carried-count : (wanted : List ℕ) (k x : ℕ) → (0 < k → OptimalBy jobKind rule w h g wanted) → k ≤ h → x ≡ worthSoFar setup reads wanted k
+      → x ≡ countBy (hasTarget jobKind) w k g wanted
+  carried-count wanted k x o l e = e ∙ go k o l ∙ sym (count-score (hasTarget jobKind) w k g wanted)
+    where
+      go : (k : ℕ) → (0 < k → OptimalBy jobKind rule w h g wanted) → k ≤ h → worthSoFar setup reads wanted k ≡ score w k marks wanted
+      go zero o l = worth-none setup reads wanted ∙ sym (score-none w marks wanted)
+      go (suc k) o l = worth-score (solution-board jobKind rule g wanted (z .size) (o (omega arith) .solution)) (suc k) l
 
   pub progress : (wanted : List ℕ) (before now : State) → Of jobKind rule w h (now .job) → jobFits (now .job) ≡ true
-      → (0 < rowsIn (gridKind jobKind rule w h g) (now .job) → OptimalBy halves rule w h g wanted)
-      → Places.Filled (kind halves rule w h g) (planOf jobKind w h) (now .job .units) (before .table) (now .table)
+      → (0 < rowsIn (gridKind jobKind rule w h g) (now .job) → OptimalBy jobKind rule w h g wanted)
+      → Places.Filled (gridRows jobKind rule w h g) (planOf jobKind w h) (now .job .units) (before .table) (now .table)
       → Written w (rowsIn (gridKind jobKind rule w h g) (now .job)) wanted (before .board) (now .board)
       → Carried setup reads (rowsIn (gridKind jobKind rule w h g) (now .job)) wanted (aboveOf (now .job .stage)) (lastOf (now .job .stage)) (liveOf (now .job .stage))
       → Progress jobKind rule w h g wanted before now
@@ -161,5 +168,5 @@ module _ (jobKind : Kind) {rule : Rule} {w h : ℕ} (z : Frame jobKind rule w h)
         written = E;
         above = C .above ∙ row-same wanted (k - 1) (omega (arith, C .few));
         last = C .last ∙ row-same wanted k (C .few);
-        live = carried-score wanted k (liveOf s) o (C .few) (C .soFar);
+        live = carried-count wanted k (liveOf s) o (C .few) (C .soFar);
       }

@@ -1,7 +1,8 @@
 -- Rows and cells: a row's digits are its cells, its worth is what they earn, and a board is its rows.
 -- Assumes nothing.
 use mathlib.Core.Path.{_≡_, refl, sym, _∙_, ap}
-use mathlib.Core.List.{List}
+use mathlib.Core.Bool.{Bool, true, false}
+use mathlib.Core.List.{List, []}
 use Prim.Native.Nat.{ℕ, suc, _+_, _*_, _-_, _/_, _%_, _<_}
 use native.Mathlib.Nat.{mul-comm, div-add-mod', mod-lt, div-lt-iff-lt-mul}
 use native.Mathlib.Numerals.{add-one}
@@ -17,8 +18,9 @@ use Rattle.life.specs.Plane.{onPlane}
 use Rattle.life.specs.Rows.{rowOf, digitIn, cellOf}
 use Rattle.life.proofs.OnPlane.{on-board}
 use Rattle.life.proofs.Rows.{row-cells}
-use Rattle.solver.specs.Grid.{score}
-use Rattle.score_table.specs.Rows.{cellWorth, rowWorth}
+use Rattle.solver.specs.Grid.{score, population, countBy}
+use Rattle.score_table.specs.Rows.{cellWorth, rowWorth, marksOf}
+use Rattle.score_table.proofs.Marks.{worth-free}
 
 -- rows outside 1 to h are dead
 module _ (w h : ℕ) (cells : List ℕ) where
@@ -56,6 +58,13 @@ module _ {w h : ℕ} {board : List ℕ} (b : Bytes 1 w h board) where
 pub score-none : (w : ℕ) (g board : List ℕ) → score w 0 g board ≡ 0
 unfolding score
 score-none w g board = let e : w * 0 ≡ 0 = omega arith in rw e (total-none (λ p. cellWorth (getD g p 0) (getD board p 0)))
+
+-- what a board counts is its score by the marks that rows go by: where none are lent all live cells are free
+pub count-score : (target : Bool) (w h : ℕ) (g board : List ℕ) → countBy target w h g board ≡ score w h (marksOf target g) board
+unfolding score population
+count-score true w h g board =
+    total-same (λ p. getD board p 0) (λ p. cellWorth (getD [] p 0) (getD board p 0)) (w * h) (λ p l. sym (worth-free (getD [] p 0) (getD board p 0) (λ e. omega arith) (λ e. omega arith)))
+count-score false w h g board = refl
 
 -- ---- a board is its rows
 -- a place of a board is a column of one of its rows, both counted from 0

@@ -14,11 +14,9 @@ use Rattle.elimination.specs.Table.{reads, fillEntry, fillEntries}
 use Rattle.elimination.specs.Task.{Task, fill, row, isFill}
 use Rattle.elimination.specs.Shape.{Numbers, afterEntry, afterEntries, afterRow, afterNone}
 use Rattle.elimination.specs.Job.{Setup}
-use Rattle.rule.specs.Rule.{nextUnder}
-use Rattle.score_table.specs.Rows.{rowWorth, rowFor}
-use Rattle.score_table.specs.ScoreTable.{mostLive, kindOf}
+use Rattle.score_table.specs.Rows.{rowWorth, marksOf, rowFor}
 use Rattle.score_table.proofs.Marks.{row-worth-le}
-use Rattle.job.specs.Jobs.{halvesOf, kindDigits, shapeOf, aboveOf, lastOf, markOf, liveOf, jobFits, taskDue, jobWith, afterUnit, afterFills}
+use Rattle.job.specs.Jobs.{hasTarget, kindDigits, shapeOf, aboveOf, lastOf, markOf, liveOf, jobFits, taskDue, jobWith, afterUnit, afterFills}
 use Rattle.job.specs.declared.Job.{Job}
 use Rattle.job.specs.declared.Chosen.{Chosen}
 use Rattle.job.proofs.Shapes.{shape-rounds}
@@ -27,7 +25,7 @@ use Rattle.service.specs.Service.{next, spoiled, worksOn, stageSays}
 use Rattle.service.specs.Units.{here, rowStep, markStep, unitBy}
 use Rattle.service.proofs.Calls.{works-none, works-next, works-still, works-spoiled}
 use Rattle.board_rows.specs.Rows.{putRow}
-use Rattle.solver.specs.Units.{State, setupOf, unitOf, grid}
+use Rattle.solver.specs.Units.{State, wantBy, gridRows, setupOf, unitOf, grid}
 use Rattle.solver.specs.Inner.{lentState, stepOf, Lent, Chooses, Moves}
 use Rattle.solver.specs.declared.choosing.Stepped.{Stepped}
 use Rattle.elimination.proofs.Candidates.{RowBelow}
@@ -57,7 +55,7 @@ module _ (j : Job) (g t β : List ℕ) where
   grids = setupOf (j .kind) (j .rule) w h g
 
   abbrev kinds : Kind ℕ
-  kinds = kindOf (halvesOf (j .kind)) (nextUnder (j .rule)) w h g
+  kinds = gridRows (j .kind) (j .rule) w h g
 
   unit-fill : (k source target i : ℕ) → markOf (j .stage) ≡ 0 → shapeOf (j .kind) w h .plan (j .units) ≡ fill k source target i
       → unitOf g now ≡ next (lentState (jobWith j (afterEntry (here j))) (fillEntry kinds k source target i t) β)
@@ -86,28 +84,32 @@ module _ (j : Job) (g t β : List ℕ) where
 module _ (j : Job) (r source : ℕ) (g t β : List ℕ) (C : Chooses j r source g t β) where
   -- the row that a number stands for
   abbrev rowIs : ℕ → ℕ
-  rowIs c = rowFor (mostLive (halvesOf (j .kind))) (j .width) c
+  rowIs c = rowFor (wantBy (j .kind)) (j .width) c
+
+  -- the marks that rows go by
+  abbrev marks : List ℕ
+  marks = marksOf (hasTarget (j .kind)) g
 
   abbrev choice : Choice ℕ
   choice =
-      choose (kindOf (halvesOf (j .kind)) (nextUnder (j .rule)) (j .width) (j .height) g) (j .height - suc r) (aboveOf (j .stage)) (lastOf (j .stage))
-      (reads (kindOf (halvesOf (j .kind)) (nextUnder (j .rule)) (j .width) (j .height) g) t source (lastOf (j .stage)))
+      choose (gridRows (j .kind) (j .rule) (j .width) (j .height) g) (j .height - suc r) (aboveOf (j .stage)) (lastOf (j .stage))
+      (reads (gridRows (j .kind) (j .rule) (j .width) (j .height) g) t source (lastOf (j .stage)))
 
   comes : (o : Choice ℕ) → choice ≡ o → rowStep (setupOf (j .kind) (j .rule) (j .width) (j .height) g) r (lentState j t β) o ≡ unitOf g (lentState j t β)
   comes o f =
       sym (unit-choose j g t β r source (C .running) (C .task) ∙ ap (rowStep (setupOf (j .kind) (j .rule) (j .width) (j .height) g) r (lentState j t β)) f)
 
-  pub moves-row : (c n : ℕ) → choice ≡ chosen c n → (j′ : Job) → j′ ≡ afterUnit j (Chosen.Row c (rowWorth (j .width) g (r * j .width) (rowIs c)))
+  pub moves-row : (c n : ℕ) → choice ≡ chosen c n → (j′ : Job) → j′ ≡ afterUnit j (Chosen.Row c (rowWorth (j .width) marks (r * j .width) (rowIs c)))
       → Moves j g t β (Stepped.Next j′) t (putRow (kindDigits (j .kind) (j .width)) (j .width) r c β)
   moves-row c n f j′ q =
       let live = liveOf (j .stage) in
       let l : c < 2 ^ kindDigits (j .kind) (j .width) =
-      subst (RowBelow (2 ^ kindDigits (j .kind) (j .width))) f (choose-below (kindOf (halvesOf (j .kind)) (nextUnder (j .rule)) (j .width) (j .height) g) (j .height - suc r) (aboveOf (j .stage)) (lastOf (j .stage))
-      (reads (kindOf (halvesOf (j .kind)) (nextUnder (j .rule)) (j .width) (j .height) g) t source (lastOf (j .stage)))) in
+      subst (RowBelow (2 ^ kindDigits (j .kind) (j .width))) f (choose-below (gridRows (j .kind) (j .rule) (j .width) (j .height) g) (j .height - suc r) (aboveOf (j .stage)) (lastOf (j .stage))
+      (reads (gridRows (j .kind) (j .rule) (j .width) (j .height) g) t source (lastOf (j .stage)))) in
       let d : j .height - suc (j .height - suc r) ≡ r = omega (arith, row-in C .inside) in
-      let same : j′ ≡ jobWith j (afterRow (j .height) r c (rowWorth (j .width) g ((j .height - suc (j .height - suc r)) * j .width) (rowIs c) + live) (here j)) =
-      q ∙ after-row j (C .lent .taken) (C .running) (C .task) c (rowWorth (j .width) g (r * j .width) (rowIs c)) l (row-worth-le (j .width) g (r * j .width) (rowIs c))
-      ∙ ap (λ (k : ℕ). jobWith j (afterRow (j .height) r c (rowWorth (j .width) g (k * j .width) (rowIs c) + live) (here j))) (sym d) in
+      let same : j′ ≡ jobWith j (afterRow (j .height) r c (rowWorth (j .width) marks ((j .height - suc (j .height - suc r)) * j .width) (rowIs c) + live) (here j)) =
+      q ∙ after-row j (C .lent .taken) (C .running) (C .task) c (rowWorth (j .width) marks (r * j .width) (rowIs c)) l (row-worth-le (j .width) marks (r * j .width) (rowIs c))
+      ∙ ap (λ (k : ℕ). jobWith j (afterRow (j .height) r c (rowWorth (j .width) marks (k * j .width) (rowIs c) + live) (here j))) (sym d) in
       moved-on (ap (λ (i : Job). next (lentState i t (putRow (kindDigits (j .kind) (j .width)) (j .width) r c β))) same ∙ comes (chosen c n) f)
 
   pub moves-none : r ≡ 0 → choice ≡ nothing → (j′ : Job) → j′ ≡ afterUnit j Chosen.Nothing → Moves j g t β (Stepped.Next j′) t β
@@ -138,7 +140,7 @@ pub record Onward (g : List ℕ) (j : Job) (t β : List ℕ) (n : ℕ) (j′ : J
 module _ (j : Job) (g t β : List ℕ) (L : Lent j g t β) (m : markOf (j .stage) ≡ 0) (k source target i : ℕ)
     (p : shapeOf (j .kind) (j .width) (j .height) .plan (j .units) ≡ fill k source target i) where
   abbrev K : Kind ℕ
-  K = kindOf (halvesOf (j .kind)) (nextUnder (j .rule)) (j .width) (j .height) g
+  K = gridRows (j .kind) (j .rule) (j .width) (j .height) g
 
   -- the state after c of them
   abbrev ran : ℕ → State

@@ -7,16 +7,17 @@ use mathlib.Core.Logic.{⊎-elim}
 use Prim.Native.Nat.{ℕ, zero, suc, _+_, _*_, _-_, _/_, _^_, _≤_, _<_}
 use native.Mathlib.Nat.{eq-or-lt-of-le, zero-div, div-lt-iff-lt-mul, le-div-iff-mul-le}
 use native.Mathlib.Omega.{arith}
-use borrow.Author.Tests.{eq-eqb, ne-eqb, leb-true, ltb-true}
+use borrow.Author.Tests.{eq-eqb, ne-eqb, leb-true}
 use lib.Dec.{eqb}
 use lib.ListN.{length, getD}
 use lib.Pow.{pow-pos}
-use Rattle.board.specs.Boards.{rowDigits, SizedBy}
+use Rattle.board.specs.Boards.{SizedBy}
 use Rattle.board.proofs.Sums.{total-sum}
 use Rattle.rule.specs.declared.Rule.{Rule}
 use Rattle.elimination.specs.Order.{isWorse, isTied}
 use Rattle.elimination.specs.Candidates.{NoBetterRows}
-use Rattle.elimination.specs.Kind.{Kind, entry, rightEntry, rightRows, worthOf}
+use Rattle.elimination.specs.Kind.{entry, rightEntry, rightRows, worthOf}
+use Rattle.elimination.specs.Kind as Elimination
 use Rattle.elimination.specs.Endings.{total, Solved, noEnding, anEnding}
 use Rattle.elimination.specs.Boards.{BoardSolved, theBest, noBoard}
 use Rattle.elimination.proofs.Numbers.{lt-or-ge}
@@ -24,27 +25,32 @@ use Rattle.elimination.proofs.Kind.{entry-more, right-entry-last, right-entry-m
 use Rattle.elimination.proofs.Sums.{tied-equal}
 use Rattle.elimination.proofs.Endings.{total-none, total-more, elimination-solves, ending-counts}
 use Rattle.elimination.proofs.Boards.{best-is-chosen}
+use Rattle.life.specs.Plane.{Still, LeadsTo}
 use Rattle.life.specs.Rows.{rowOf}
-use Rattle.solver.specs.Grid.{Solution, SolutionBy, BoardBy, halfOf, heldRow, BestBy, score, population}
-use Rattle.score_table.specs.Rows.{cellWorth, rowWorth, wholeRow, rowFor}
-use Rattle.score_table.specs.ScoreTable.{absent, mostLive, readsOf}
+use Rattle.job.specs.Jobs.{halvesOf, hasTarget, kindDigits}
+use Rattle.job.specs.declared.Kind.{Kind}
+use Rattle.solver.specs.Grid.{KeepsGivens, SolutionBy, BoardBy, halfOf, heldRow, CountsNoBetter, score, population, countBy}
+use Rattle.solver.specs.Units.{wantBy, gridRows}
+use Rattle.score_table.specs.Rows.{cellWorth, rowWorth, marksOf, wholeRow, rowFor}
+use Rattle.score_table.specs.ScoreTable.{absent, readsOf}
 use Rattle.solver.specs.Theorems as Theorems
-use Rattle.solver.specs.Theorems.{EndingsAreSolutions, BestOrNone, best, none, ChoiceIsOptimal, MirrorOrder, rowsWorth, Greatest, greatest, RightGridLayer, EntriesRight, liveGivens, GivensApart, SameBest}
+use Rattle.solver.specs.Theorems.{EndingsAreSolutions, BestOrNone, best, none, ChoiceIsOptimal, MirrorOrder, rowsWorth, BestWorth, bestEnding, RightGridLayer, EntriesRight, liveGivens, GivensApart, SameBest, StillIsOwnPredecessor}
 use Rattle.score_table.proofs.Marks.{MarkIs, isDead, isLive, isFree, mark-is, worth-dead, worth-live, worth-free}
 use Rattle.score_table.proofs.WholeRows.{rows-whole}
 use Rattle.solver.proofs.RowLaws.{row-none}
-use Rattle.solver.proofs.HeldRows.{held-none, held-lt, row-held, solution-plain}
-use Rattle.solver.proofs.Endings.{kind, kind-laws, solution-ends, ends-solution}
+use Rattle.solver.proofs.Counts.{worse-no-better, equal-no-better, shifted, shifted-back}
+use Rattle.solver.proofs.HeldRows.{held-none, held-lt, row-held, comes}
+use Rattle.solver.proofs.Endings.{kind-laws, solution-ends, ends-solution}
 use Rattle.solver.proofs.Optimum.{grid-boards, optimal-of}
 
 pub endings-are-solutions : EndingsAreSolutions
-endings-are-solutions halves rule allowed w h g board b = (ends-solution halves allowed b g, solution-ends halves allowed b g)
+endings-are-solutions kind rule allowed w h g board T b = (ends-solution kind allowed b g T, solution-ends kind allowed b g T)
 
 pub choice-is-optimal : ChoiceIsOptimal
-choice-is-optimal halves rule allowed w h g z = go (best-is-chosen (kind-laws halves rule w h g z) (grid-boards allowed z g))
+choice-is-optimal kind rule allowed w h g T z = go (best-is-chosen (kind-laws kind rule w h g z) (grid-boards kind allowed z g T))
   where
-    go : BoardSolved (kind halves rule w h g) h (heldRow halves w h) (SolutionBy halves rule w h g) (score w h g) → BestOrNone halves rule w h g
-    go (theBest b B rows worth) = best b (optimal-of allowed z g B) rows (tied-equal false worth)
+    go : BoardSolved (gridRows kind rule w h g) h (heldRow (halvesOf kind) w h) (SolutionBy kind rule w h g) (countBy (hasTarget kind) w h g) → BestOrNone kind rule w h g
+    go (theBest b B rows worth) = best b (optimal-of kind allowed z g T B) rows (tied-equal (hasTarget kind) worth)
     go (noBoard n p) = none n p
 
 -- ---- mirror boards in order
@@ -97,48 +103,48 @@ mirror-order w h board other B O = (
 )
 
 -- ---- entries
-module _ (halves : Bool) (rule : Rule) (w h : ℕ) (g : List ℕ) where
-  abbrev kinds : Kind ℕ
-  kinds = kind halves rule w h g
+module _ (kind : Kind) (rule : Rule) (w h : ℕ) (g : List ℕ) where
+  abbrev rows : Elimination.Kind ℕ
+  rows = gridRows kind rule w h g
 
-  worth-total : (cs : List ℕ) → rowsWorth halves w h g cs ≡ total kinds cs
+  worth-total : (cs : List ℕ) → rowsWorth kind w h g cs ≡ total rows cs
   unfolding rowsWorth
-  worth-total [] = sym (total-none kinds)
+  worth-total [] = sym (total-none rows)
   worth-total (c ∷ cs) =
-      ap (λ (x : ℕ). rowWorth w g ((h - suc (length cs)) * w) (rowFor (mostLive halves) w c) + x) (worth-total cs) ∙ sym (total-more kinds c cs)
+      ap (λ (x : ℕ). rowWorth w (marksOf (hasTarget kind) g) ((h - suc (length cs)) * w) (rowFor (wantBy kind) w c) + x) (worth-total cs) ∙ sym (total-more rows c cs)
 
-  module _ (z : SizedBy halves w h) where
-    -- an entry is the greatest worth
-    right-greatest : (k a b : ℕ) → k ≤ h → Greatest halves rule w h g k a b (rightEntry kinds k a b)
-    right-greatest k a b l = go (elimination-solves kinds h (kind-laws halves rule w h g z) k a b l)
+  module _ (z : SizedBy (halvesOf kind) w h) where
+    -- an entry is the best worth
+    right-best : (k a b : ℕ) → k ≤ h → BestWorth kind rule w h g k a b (rightEntry rows k a b)
+    right-best k a b l = go (elimination-solves rows h (kind-laws kind rule w h g z) k a b l)
       where
-        go : Solved kinds k a b (rightEntry kinds k a b) (rightRows kinds k a b) → Greatest halves rule w h g k a b (rightEntry kinds k a b)
+        go : Solved rows k a b (rightEntry rows k a b) (rightRows rows k a b) → BestWorth kind rule w h g k a b (rightEntry rows k a b)
         go (noEnding n p q) = Theorems.noEnding n p
         go (anEnding T) =
-            let cs = rightRows kinds k a b in
-            greatest cs (T .lawful) (worth-total cs ∙ tied-equal false (T .worth))
-            (leb-true (rightEntry kinds k a b) (mostLive halves .limit) (ending-counts kinds (kind-laws halves rule w h g z) k a b l cs (T .lawful))) (λ ds D. most ds (T .unbeaten ds D))
+            let cs = rightRows rows k a b in
+            bestEnding cs (T .lawful) (worth-total cs ∙ tied-equal (hasTarget kind) (T .worth))
+            (leb-true (rightEntry rows k a b) (wantBy kind .limit) (ending-counts rows (kind-laws kind rule w h g z) k a b l cs (T .lawful))) (λ ds D. rw (worth-total ds) (most ds (T .unbeaten ds D)))
           where
-            most : (ds : List ℕ) → NoBetterRows (kinds .comparison) (total kinds ds) ds (rightEntry kinds k a b) (rightRows kinds k a b)
-                → rowsWorth halves w h g ds ≤ rightEntry kinds k a b
-            most ds (isWorse p) = omega (arith, worth-total ds, ltb-true (total kinds ds) (rightEntry kinds k a b) p)
-            most ds (isTied e f) = omega (arith, worth-total ds, tied-equal false e)
+            most : (ds : List ℕ) → NoBetterRows (rows .comparison) (total rows ds) ds (rightEntry rows k a b) (rightRows rows k a b)
+                → CountsNoBetter (hasTarget kind) (total rows ds) (rightEntry rows k a b)
+            most ds (isWorse p) = worse-no-better (hasTarget kind) (total rows ds) (rightEntry rows k a b) p
+            most ds (isTied e f) = equal-no-better (hasTarget kind) (total rows ds) (rightEntry rows k a b) (tied-equal (hasTarget kind) e)
 
   -- over right entries the rule gives a right entry
-  rule-right : (i a b : ℕ) → b < 2 ^ rowDigits halves w → (t : List ℕ) → (i < h → RightGridLayer halves rule w h g t (i + 1)) → (k : ℕ) → h - i ≡ k
-      → entry kinds k a b (readsOf (rowDigits halves w) t (i + 1) b) ≡ rightEntry kinds k a b
-  rule-right i a b l t right zero e = sym (right-entry-last kinds a b (readsOf (rowDigits halves w) t (i + 1) b))
+  rule-right : (i a b : ℕ) → b < 2 ^ kindDigits kind w → (t : List ℕ) → (i < h → RightGridLayer kind rule w h g t (i + 1)) → (k : ℕ) → h - i ≡ k
+      → entry rows k a b (readsOf (kindDigits kind w) t (i + 1) b) ≡ rightEntry rows k a b
+  rule-right i a b l t right zero e = sym (right-entry-last rows a b (readsOf (kindDigits kind w) t (i + 1) b))
   rule-right i a b l t right (suc k) e =
       let d : h - (i + 1) ≡ k = omega arith in
-      let reads = readsOf (rowDigits halves w) t (i + 1) b in
-      entry-more kinds k a b reads
-      ∙ ap (worthOf absent) (choose-ext kinds k a b reads (rightEntry kinds k b) (λ c m. rw d at (right (omega arith) b c l m)))
-      ∙ sym (right-entry-more kinds k a b ∙ entry-more kinds k a b (rightEntry kinds k b))
+      let reads = readsOf (kindDigits kind w) t (i + 1) b in
+      entry-more rows k a b reads
+      ∙ ap (worthOf absent) (choose-ext rows k a b reads (rightEntry rows k b) (λ c m. rw d at (right (omega arith) b c l m)))
+      ∙ sym (right-entry-more rows k a b ∙ entry-more rows k a b (rightEntry rows k b))
 
 pub entries-right : EntriesRight
-entries-right halves rule w h g z i a b l q = record {
-  from-below = λ t right. rule-right halves rule w h g i a b q t right (h - i) refl;
-  means = right-greatest halves rule w h g z (h - i) a b (omega arith);
+entries-right kind rule w h g z i a b l q = record {
+  from-below = λ t right. rule-right kind rule w h g i a b q t right (h - i) refl;
+  means = right-best kind rule w h g z (h - i) a b (omega arith);
 }
 
 -- ---- the score and all live cells
@@ -157,23 +163,32 @@ givens-apart w h g board K =
     total-sum (λ p. getD board p 0) (λ p. cellWorth (getD g p 0) (getD board p 0)) (λ p. cond (eqb (getD g p 0) 2) 1 0) (w * h)
     (λ p l. cell-apart (getD g p 0) (getD board p 0) (K .dead p l) (K .live p l))
 
--- counts that order the solutions alike have the same best board
-module _ (halves : Bool) {rule : Rule} {w h : ℕ} {g board : List ℕ} where
-  best-same : {count count′ : List ℕ → ℕ}
-      → ((a b : List ℕ) → SolutionBy halves rule w h g a → SolutionBy halves rule w h g b → count a ≤ count b → count′ a ≤ count′ b)
-      → ((a b : List ℕ) → SolutionBy halves rule w h g a → SolutionBy halves rule w h g b → count′ a ≡ count′ b → count a ≡ count b)
-      → BestBy halves count rule w h g board → BestBy halves count′ rule w h g board
-  best-same le eq B = record {
-    solution = B .solution;
-    most = λ a S. le a board S (B .solution) (B .most a S);
-    earliest = λ a S e. B .earliest a S (eq a board S (B .solution) e);
-  }
+-- all live cells are what a board counts and the given live cells, of which there are none with a target
+apart : (target : Bool) (w h : ℕ) (g a : List ℕ) → KeepsGivens w h (marksOf target g) a → population w h a ≡ countBy target w h g a + cond target 0 (liveGivens w h g)
+apart true w h g a K = omega arith
+apart false w h g a K = givens-apart w h g a K
 
 pub same-best : SameBest
-same-best halves rule w h g board = (
-  best-same halves (λ a b S T l. omega (arith, apart a S, apart b T)) (λ a b S T e. omega (arith, apart a S, apart b T)),
-  best-same halves (λ a b S T l. omega (arith, apart a S, apart b T)) (λ a b S T e. omega (arith, apart a S, apart b T)),
+same-best kind rule w h g board = (
+  λ B. record {
+    solution = B .solution;
+    unbeaten = λ a S. shifted (hasTarget kind) _ _ given (all a S) (all board (B .solution)) (B .unbeaten a S);
+    earliest = λ a S e. B .earliest a S (omega (arith, all a S, all board (B .solution)));
+  },
+  λ B. record {
+    solution = B .solution;
+    unbeaten = λ a S. shifted-back (hasTarget kind) _ _ given (all a S) (all board (B .solution)) (B .unbeaten a S);
+    earliest = λ a S e. B .earliest a S (omega (arith, all a S, all board (B .solution)));
+  },
 )
   where
-    apart : (a : List ℕ) → SolutionBy halves rule w h g a → population w h a ≡ score w h g a + liveGivens w h g
-    apart a S = let P : Solution rule w h g a = solution-plain halves S in givens-apart w h g a (P .keeps)
+    given : ℕ
+    given = cond (hasTarget kind) 0 (liveGivens w h g)
+
+    all : (a : List ℕ) → SolutionBy kind rule w h g a → population w h a ≡ countBy (hasTarget kind) w h g a + given
+    all a S = apart (hasTarget kind) w h g a (comes kind S .keeps)
+
+-- ---- predecessors
+pub still-is-own-predecessor : StillIsOwnPredecessor
+unfolding Still LeadsTo
+still-is-own-predecessor rule w h board b = (λ P. P .leads, λ s. record { bytes = b; leads = s })

@@ -17,20 +17,21 @@ use Rattle.service.specs.JobKinds.{aimOf, KindLaws}
 use Rattle.service.proofs.Calls.{work-passed}
 use Rattle.service.proofs.JobKinds.{kind-meets-demand}
 use Rattle.service.proofs.RowUnits.{unit-on-board}
+use Rattle.solver.specs.Grid.{TargetCells}
 use Rattle.solver.specs.Working.{lentCheck}
 use Rattle.solver.specs.Units.{unitOf, grid}
 use Rattle.solver.specs.Demand.{gridKind, ThirdDemand}
 use Rattle.solver.specs.Theorems.{allRows, RowsToBoard}
 use Rattle.solver.proofs.Endings.{kind-laws}
 use Rattle.solver.proofs.Optimum.{rows-stand, boardOf, grid-boards, grid-into, is-total, optimal}
-use Rattle.solver.proofs.CheckLaws.{checks-sound, lent-passed}
+use Rattle.solver.proofs.CheckLaws.{checks-sound, target-cells, lent-target, lent-passed}
 use Rattle.solver.proofs.Machine.{numbered, unit-same}
 use Rattle.solver.proofs.Progress.{progress}
 
-module _ (kind : Kind) {rule : Rule} {w h : ℕ} (z : Frame kind rule w h) (g : List ℕ) where
+module _ (kind : Kind) {rule : Rule} {w h : ℕ} (z : Frame kind rule w h) (g : List ℕ) (T : TargetCells kind w h g) where
   pub kind-shows : KindLaws (List ℕ) lentCheck unitOf g (gridKind kind rule w h g)
   kind-shows = record {
-    laws = kind-laws (halvesOf kind) rule w h g (z .size);
+    laws = kind-laws kind rule w h g (z .size);
     high = z .size .some-row;
     wide = pow-pos (kindDigits kind w);
     orderly = shape-orderly w h kind;
@@ -47,9 +48,9 @@ module _ (kind : Kind) {rule : Rule} {w h : ℕ} (z : Frame kind rule w h) (g : 
     all-rows = mul-comm h w;
     writer = rows-stand (halvesOf kind) w;
     boardOf = boardOf (halvesOf kind) w h;
-    into = grid-into (z .allowed) (z .size) g;
-    best = λ x rows T. (optimal (z .allowed) (z .size) g T, is-total (z .allowed) (z .size) g T);
-    none = λ n b S. n (allRows (halvesOf kind) w h b) (grid-boards (z .allowed) (z .size) g .ends b S);
+    into = grid-into kind (z .allowed) (z .size) g T;
+    best = λ x rows E. (optimal kind (z .allowed) (z .size) g T E, is-total kind (z .allowed) (z .size) g T E);
+    none = λ n b S. n (allRows (halvesOf kind) w h b) (grid-boards kind (z .allowed) (z .size) g T .ends b S);
     progress = λ wanted before now O f o F E C. progress kind z g wanted before now O f o F E C;
   }
 
@@ -57,9 +58,10 @@ module _ (kind : Kind) {rule : Rule} {w h : ℕ} (z : Frame kind rule w h) (g : 
 pub third-demand : ThirdDemand
 unfolding ThirdDemand
 third-demand kind rule w h g t β r j O e =
-    let z = opening-shows kind rule w h g (sym (O .says) ∙ ap jobResultSays e) .0 in
+    let q = opening-shows kind rule w h g (sym (O .says) ∙ ap jobResultSays e) in
+    let z = q .0 in
     subst (λ (x : Job). Demand grid (aimOf (gridKind kind rule w h g)) g (record { job = x; table = t; board = β })) (sym (O .job j e))
-    (kind-meets-demand (List ℕ) lentCheck unitOf g (gridKind kind rule w h g) (kind-shows kind z g) (record { job = start kind rule w h; table = t; board = β }) (record {
+    (kind-meets-demand (List ℕ) lentCheck unitOf g (gridKind kind rule w h g) (kind-shows kind z g (target-cells kind rule w h g (q .1))) (record { job = start kind rule w h; table = t; board = β }) (record {
       of = record { kept = refl; ruled = refl; wide = refl; tall = refl };
       fits = start-fits kind z;
       units = refl;
@@ -74,5 +76,5 @@ pub rows-to-board : RowsToBoard
 rows-to-board g s s′ p e =
     let j = s .job in
     let q = work-passed grid j g (s .table) (s .board) p in
-    unit-on-board (List ℕ) lentCheck unitOf g (gridKind (j .kind) (j .rule) (j .width) (j .height) g) (kind-shows (j .kind) (fits-frame j (q .0)) g) s s′
+    unit-on-board (List ℕ) lentCheck unitOf g (gridKind (j .kind) (j .rule) (j .width) (j .height) g) (kind-shows (j .kind) (fits-frame j (q .0)) g (lent-target j g (s .table) (s .board) (q .1))) s s′
     (record { kept = refl; ruled = refl; wide = refl; tall = refl }) (q .0) (q .1) e

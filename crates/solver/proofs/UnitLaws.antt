@@ -11,16 +11,14 @@ use Rattle.board.specs.Boards.{maxWidth}
 use Rattle.elimination.specs.Candidates.{Choice, nothing, chosen}
 use Rattle.rule.specs.declared.Rule.{Rule}
 use Rattle.job.specs.Jobs.{halvesOf, kindDigits, planOf, shapeOf, aboveOf, lastOf, markOf, jobFits}
-use Rattle.rule.specs.Rule.{nextUnder}
 use Rattle.elimination.specs.Kind.{choose}
 use Rattle.elimination.specs.Table.{reads, fillEntry}
-use Rattle.score_table.specs.ScoreTable.{mostLive, kindOf}
 use Rattle.elimination.specs.Task.{Task, fill, row}
 use Rattle.elimination.proofs.Rounds.{FillAt, fill-at, row-at}
 use Rattle.board.proofs.Powers.{four-pos}
 use Rattle.service.specs.Units.{rowStep, taskStep, markStep, unitBy}
 use Rattle.service.specs.Service.{next, spoiled}
-use Rattle.solver.specs.Units.{State, Step, setupOf, unitOf}
+use Rattle.solver.specs.Units.{State, Step, wantBy, gridRows, setupOf, unitOf}
 use Rattle.solver.specs.Inner.{Lent, Chooses}
 use Rattle.score_table.specs.Inner.{Memory, EntriesRead}
 use Rattle.job.specs.declared.Kind.{Kind}
@@ -65,8 +63,8 @@ module _ (kind : Kind) (rule : Rule) (w h : ℕ) (g : List ℕ) (s : State) wher
   task-lengths (fill k source target j) = record { table = length-set (s .table) (target + j) _; board = refl }
   task-lengths (row r source) =
       row-lengths r
-      (choose (kindOf (halvesOf kind) (nextUnder rule) w h g) (h - suc r) (aboveOf (s .job .stage)) (lastOf (s .job .stage))
-      (reads (kindOf (halvesOf kind) (nextUnder rule) w h g) (s .table) source (lastOf (s .job .stage))))
+      (choose (gridRows kind rule w h g) (h - suc r) (aboveOf (s .job .stage)) (lastOf (s .job .stage))
+      (reads (gridRows kind rule w h g) (s .table) source (lastOf (s .job .stage))))
 
   mark-lengths : (m : ℕ) (o : Task) → StepLengths (s .table) (s .board) (markStep (setupOf kind rule w h g) m o s)
   mark-lengths zero o = task-lengths o
@@ -103,7 +101,7 @@ module _ {j : Job} {g t β : List ℕ} {k source target i : ℕ} (L : Lent j g t
   pub lent-entry : (kindDigits (j .kind) (j .width) ≤ maxWidth) × (i < 4 ^ kindDigits (j .kind) (j .width))
   lent-entry = (fits-frame j (L .taken) .size .width .narrow, at .inside)
 
-  pub lent-read : (n : ℕ) → i + n ≤ 4 ^ kindDigits (j .kind) (j .width) → EntriesRead (mostLive (halvesOf (j .kind))) (j .width) (j .height) k source i n g t × (target + 4 ^ kindDigits (j .kind) (j .width) ≤ length t)
+  pub lent-read : (n : ℕ) → i + n ≤ 4 ^ kindDigits (j .kind) (j .width) → EntriesRead (wantBy (j .kind)) (j .width) (j .height) k source i n g t × (target + 4 ^ kindDigits (j .kind) (j .width) ≤ length t)
   lent-read n l = (
     record { memory = lent-memory L; after = at .after; inside = l; layer = λ z. omega (arith, at .reads z, L .entries) },
     omega (arith, at .writes, L .entries),

@@ -1,5 +1,5 @@
--- Document 01, "Grid, row word, givens", and Req 06: givens kept, mirror boards, the score, board order, and the board that is wanted. Where rows are
--- held as their left halves, `halves`, it is wanted among mirror boards.
+-- Document 01, "Grid, row word, givens", Req 06 and Req 08: givens kept, mirror boards, boards that step to a target, the score, board order, and the
+-- board that is wanted by a job of a kind.
 -- Assumes nothing.
 use mathlib.Core.Path.{_≡_}
 use mathlib.Core.Bool.{Bool, true, false, cond}
@@ -11,8 +11,10 @@ use Rattle.board.specs.Sums.{total}
 use Rattle.board.specs.Boards.{among, SizedBy, Bytes}
 use Rattle.mirror.specs.Mirror.{Mirrored}
 use Rattle.rule.specs.declared.Rule.{Rule}
-use Rattle.life.specs.Plane.{onPlane, Still}
+use Rattle.life.specs.Plane.{onPlane, Still, LeadsTo}
 use Rattle.life.specs.Rows.{rowNumber, rowOf}
+use Rattle.job.specs.Jobs.{halvesOf, hasTarget}
+use Rattle.job.specs.declared.Kind.{Kind}
 use Rattle.score_table.specs.Rows.{cellWorth}
 
 -- a board keeps the givens: every given cell has its given state, 1 given dead, 2 given live
@@ -31,11 +33,22 @@ pub record MirrorSolution (rule : Rule) (w h : ℕ) (givens board : List ℕ) : 
   pub solution : Solution rule w h givens board
   pub mirrored : Mirrored w h board
 
--- ---- by how rows are held
--- the boards among which one is wanted
-abbrev pub SolutionBy : Bool → Rule → ℕ → ℕ → List ℕ → List ℕ → Type 0
-SolutionBy true = MirrorSolution
-SolutionBy false = Solution
+-- a predecessor of a target: a board that one step under the rule makes the target, every other cell of the plane dead
+pub record Predecessor (rule : Rule) (w h : ℕ) (target board : List ℕ) : Type 0 where
+  pub bytes : Bytes 1 w h board
+  pub leads : LeadsTo rule (onPlane w h board) (onPlane w h target)
+
+-- ---- by the kind of job
+-- the boards among which one is wanted; of a job with a target `givens` is the target that is lent in their place
+abbrev pub SolutionBy : Kind → Rule → ℕ → ℕ → List ℕ → List ℕ → Type 0
+SolutionBy Kind.Ordinary rule w h givens board = Solution rule w h givens board
+SolutionBy Kind.TwoLayers rule w h givens board = Solution rule w h givens board
+SolutionBy Kind.Mirror rule w h givens board = MirrorSolution rule w h givens board
+SolutionBy Kind.Predecessor rule w h target board = Predecessor rule w h target board
+
+-- what is lent to be read is a target's cells, where the job has a target
+abbrev pub TargetCells : Kind → ℕ → ℕ → List ℕ → Type 0
+TargetCells kind w h lent = hasTarget kind ≡ true → Bytes 1 w h lent
 
 -- a board: its cells, and a mirror board where rows are held as their left halves
 pub record BoardBy (halves : Bool) (w h : ℕ) (cells : List ℕ) : Type 0 where
@@ -60,6 +73,11 @@ score w h givens board = total (λ p. cellWorth (getD givens p 0) (getD board p 
 unfoldable pub population : ℕ → ℕ → List ℕ → ℕ
 population w h board = total (λ p. getD board p 0) (w * h)
 
+-- what a board counts: its score, and all its live cells where there is a target
+abbrev pub countBy : Bool → ℕ → ℕ → List ℕ → List ℕ → ℕ
+countBy true w h target board = population w h board
+countBy false w h givens board = score w h givens board
+
 -- ---- the board that is wanted
 -- board order: the first row whose numbers differ decides, and the smaller comes first
 pub record Precedes (halves : Bool) (w h : ℕ) (board other : List ℕ) : Type 0 where
@@ -68,16 +86,30 @@ pub record Precedes (halves : Bool) (w h : ℕ) (board other : List ℕ) : Type 
   pub equal : (r : ℕ) → r < row → heldRow halves w h board r ≡ heldRow halves w h other r
   pub smaller : heldRow halves w h board row < heldRow halves w h other row
 
--- best by a count of cells: it is a solution, no solution counts more, and any other that counts as many comes later in board order
-pub record BestBy (halves : Bool) (count : List ℕ → ℕ) (rule : Rule) (w h : ℕ) (givens board : List ℕ) : Type 0 where
-  pub solution : SolutionBy halves rule w h givens board
-  pub most : (other : List ℕ) → SolutionBy halves rule w h givens other → count other ≤ count board
-  pub earliest : (other : List ℕ) → SolutionBy halves rule w h givens other → count other ≡ count board → (other ≡ board) ⊎ Precedes halves w h board other
+-- count x is no better than y, where the fewest are wanted, or the most
+abbrev pub CountsNoBetter : Bool → ℕ → ℕ → Type 0
+CountsNoBetter true x y = y ≤ x
+CountsNoBetter false x y = x ≤ y
 
--- the board that is wanted: best by its score
-abbrev pub OptimalBy : Bool → Rule → ℕ → ℕ → List ℕ → List ℕ → Type 0
-OptimalBy halves rule w h givens board = BestBy halves (score w h givens) rule w h givens board
+-- best among the boards that are sought by a count of cells: it is one of them, none counts better, and any other that counts as many comes later in
+-- board order
+pub record BestAmong (halves fewest : Bool) (Sought : List ℕ → Type 0) (count : List ℕ → ℕ) (w h : ℕ) (board : List ℕ) : Type 0 where
+  pub solution : Sought board
+  pub unbeaten : (other : List ℕ) → Sought other → CountsNoBetter fewest (count other) (count board)
+  pub earliest : (other : List ℕ) → Sought other → count other ≡ count board → (other ≡ board) ⊎ Precedes halves w h board other
 
--- among all boards, mirror boards or not
+-- by the kind of job: where there is a target the fewest are wanted
+abbrev pub BestBy : Kind → (List ℕ → ℕ) → Rule → ℕ → ℕ → List ℕ → List ℕ → Type 0
+BestBy kind count rule w h givens board = BestAmong (halvesOf kind) (hasTarget kind) (SolutionBy kind rule w h givens) count w h board
+
+-- the board that is wanted: best by its score, or by all its live cells where there is a target
+abbrev pub OptimalBy : Kind → Rule → ℕ → ℕ → List ℕ → List ℕ → Type 0
+OptimalBy kind rule w h givens board = BestBy kind (countBy (hasTarget kind) w h givens) rule w h givens board
+
+-- of an ordinary job: among all still boards that keep the givens
 abbrev pub Optimal : Rule → ℕ → ℕ → List ℕ → List ℕ → Type 0
-Optimal rule w h givens board = OptimalBy false rule w h givens board
+Optimal rule w h givens board = OptimalBy Kind.Ordinary rule w h givens board
+
+-- of a target: the predecessor with the fewest live cells
+abbrev pub Fewest : Rule → ℕ → ℕ → List ℕ → List ℕ → Type 0
+Fewest rule w h target board = OptimalBy Kind.Predecessor rule w h target board

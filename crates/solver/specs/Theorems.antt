@@ -1,8 +1,8 @@
 -- What is proved of the rules over the rows of a grid: an ending is a solution, the rows that are chosen are the wanted board, an entry is what
 -- document 01, "The score table", says it is, the wanted board is the best by all live cells too, a grid turned away for an edge three has no still
 -- board that keeps the givens, a unit changes no byte of the board but those of the row that it chooses, and an ordinary job and one of two layers come
--- to the same board. The third demand is stated in `Demand`, and the round trip in `Calls` of `job`. Endings, choices, entries and live cells go by how
--- rows are held, `halves`: as their left halves, among mirror boards, or whole.
+-- to the same board; and a still board is its own predecessor. The third demand is stated in `Demand`, and the round trip in `Calls` of `job`. Endings,
+-- choices and entries are those of a job of any kind; with a target `givens` is the target.
 -- Assumes nothing.
 use mathlib.Core.Path.{_≡_}
 use mathlib.Core.Bool.{Bool, true, false, cond}
@@ -12,18 +12,19 @@ use Prim.Native.Nat.{ℕ, suc, _+_, _*_, _-_, _^_, _≤_, _<_}
 use lib.Dec.{eqb}
 use lib.ListN.{length, getD}
 use Rattle.board.specs.Answers.{Answer, passed, refuses}
-use Rattle.board.specs.Boards.{rowDigits, SizedBy}
+use Rattle.board.specs.Boards.{SizedBy, Bytes}
 use Rattle.board.specs.Sums.{total}
 use Rattle.edges.specs.Edges.{edgeCheck}
 use Rattle.elimination.specs.Kind.{entry, rightEntry, rightRows}
 use Rattle.elimination.specs.Endings.{Ending}
 use Rattle.elimination.specs.Boards.{rowsFrom}
-use Rattle.rule.specs.Rule.{Allowed, nextUnder}
+use Rattle.rule.specs.Rule.{Allowed}
 use Rattle.rule.specs.declared.Rule.{Rule}
-use Rattle.solver.specs.Grid.{KeepsGivens, Solution, SolutionBy, BoardBy, heldRow, Precedes, BestBy, OptimalBy, score, population}
-use Rattle.score_table.specs.Rows.{rowWorth, rowFor}
-use Rattle.score_table.specs.ScoreTable.{absent, mostLive, kindOf, readsOf}
-use Rattle.job.specs.Jobs.{openRule}
+use Rattle.life.specs.Plane.{onPlane, Still}
+use Rattle.solver.specs.Grid.{KeepsGivens, Solution, Predecessor, SolutionBy, TargetCells, BoardBy, heldRow, Precedes, CountsNoBetter, BestBy, OptimalBy, score, population, countBy}
+use Rattle.score_table.specs.Rows.{rowWorth, marksOf, rowFor}
+use Rattle.score_table.specs.ScoreTable.{absent, readsOf}
+use Rattle.job.specs.Jobs.{halvesOf, hasTarget, kindDigits, openRule}
 use Rattle.job.specs.Calls.{Opens}
 use Rattle.job.specs.declared.Kind.{Kind}
 use Rattle.job.specs.declared.Job.{Job}
@@ -32,7 +33,7 @@ use Rattle.service.specs.Service.{next, infeasible, workCheck, workOf}
 use Rattle.service.specs.Demand.{Call, run, Each, Fair, summed, Aim, Served}
 use Rattle.service.specs.JobKinds.{aimOf}
 use Rattle.service.specs.RowUnits.{OnBoard}
-use Rattle.solver.specs.Units.{State, unitOf, grid}
+use Rattle.solver.specs.Units.{State, wantBy, gridRows, unitOf, grid}
 use Rattle.solver.specs.Demand.{gridKind}
 use Rattle.solver.specs.Inner.{lentState}
 
@@ -41,26 +42,29 @@ use Rattle.solver.specs.Inner.{lentState}
 abbrev pub allRows : Bool → ℕ → ℕ → List ℕ → List ℕ
 allRows halves w h board = rowsFrom (heldRow halves w h board) 0 h
 
--- the k rows cs may stand below a over b and end the board there: every three neighbouring rows agree, and each keeps its givens
-abbrev pub GridEnding : Bool → Rule → ℕ → ℕ → List ℕ → ℕ → ℕ → ℕ → List ℕ → Type 0
-GridEnding halves rule w h givens k a b cs = Ending (kindOf halves (nextUnder rule) w h givens) k a b cs
+-- the k rows cs may stand below a over b and end the board there: every three neighbouring rows agree, and each keeps its givens; with a target every
+-- three step to its row
+abbrev pub GridEnding : Kind → Rule → ℕ → ℕ → List ℕ → ℕ → ℕ → ℕ → List ℕ → Type 0
+GridEnding kind rule w h givens k a b cs = Ending (gridRows kind rule w h givens) k a b cs
 
 -- below two dead rows, a board's rows are an ending exactly when the board is a solution
 abbrev pub EndingsAreSolutions : Type 0
 EndingsAreSolutions =
-    (halves : Bool) (rule : Rule) → Allowed rule → (w h : ℕ) (givens board : List ℕ) → BoardBy halves w h board
-    → GridEnding halves rule w h givens h 0 0 (allRows halves w h board) ↔ SolutionBy halves rule w h givens board
+    (kind : Kind) (rule : Rule) → Allowed rule → (w h : ℕ) (givens board : List ℕ) → TargetCells kind w h givens → BoardBy (halvesOf kind) w h board
+    → GridEnding kind rule w h givens h 0 0 (allRows (halvesOf kind) w h board) ↔ SolutionBy kind rule w h givens board
 
 -- ---- the rows that are chosen
--- by right entries either the wanted board is chosen, and the right entry is its score; or there is no solution, and the right entry says so
-pub data BestOrNone (halves : Bool) (rule : Rule) (w h : ℕ) (givens : List ℕ) : Type 0 where
-  best : (board : List ℕ) → OptimalBy halves rule w h givens board → allRows halves w h board ≡ rightRows (kindOf halves (nextUnder rule) w h givens) h 0 0
-      → score w h givens board ≡ rightEntry (kindOf halves (nextUnder rule) w h givens) h 0 0 → BestOrNone halves rule w h givens
-  none : ((board : List ℕ) → SolutionBy halves rule w h givens board → ⊥) → rightEntry (kindOf halves (nextUnder rule) w h givens) h 0 0 ≡ absent
-      → BestOrNone halves rule w h givens
+-- by right entries either the wanted board is chosen, and the right entry is what it counts; or there is no solution, and the right entry says so
+pub data BestOrNone (kind : Kind) (rule : Rule) (w h : ℕ) (givens : List ℕ) : Type 0 where
+  best : (board : List ℕ) → OptimalBy kind rule w h givens board → allRows (halvesOf kind) w h board ≡ rightRows (gridRows kind rule w h givens) h 0 0
+      → countBy (hasTarget kind) w h givens board ≡ rightEntry (gridRows kind rule w h givens) h 0 0 → BestOrNone kind rule w h givens
+  none : ((board : List ℕ) → SolutionBy kind rule w h givens board → ⊥) → rightEntry (gridRows kind rule w h givens) h 0 0 ≡ absent
+      → BestOrNone kind rule w h givens
 
 abbrev pub ChoiceIsOptimal : Type 0
-ChoiceIsOptimal = (halves : Bool) (rule : Rule) → Allowed rule → (w h : ℕ) (givens : List ℕ) → SizedBy halves w h → BestOrNone halves rule w h givens
+ChoiceIsOptimal =
+    (kind : Kind) (rule : Rule) → Allowed rule → (w h : ℕ) (givens : List ℕ) → TargetCells kind w h givens → SizedBy (halvesOf kind) w h
+    → BestOrNone kind rule w h givens
 
 -- Req 06: ties go by the left halves' numbers, which is the order by the whole rows among mirror boards
 abbrev pub MirrorOrder : Type 0
@@ -68,35 +72,37 @@ MirrorOrder =
     (w h : ℕ) (board other : List ℕ) → BoardBy true w h board → BoardBy true w h other → Precedes true w h board other ↔ Precedes false w h board other
 
 -- ---- entries
--- what the last rows of a grid of h rows are worth
-unfoldable pub rowsWorth : Bool → ℕ → ℕ → List ℕ → List ℕ → ℕ
-rowsWorth halves w h givens [] = 0
-rowsWorth halves w h givens (c ∷ cs) = rowWorth w givens ((h - suc (length cs)) * w) (rowFor (mostLive halves) w c) + rowsWorth halves w h givens cs
+-- what the last rows of a grid of h rows are worth; with a target, which isn't read as marks, all their live cells
+unfoldable pub rowsWorth : Kind → ℕ → ℕ → List ℕ → List ℕ → ℕ
+rowsWorth kind w h givens [] = 0
+rowsWorth kind w h givens (c ∷ cs) =
+    rowWorth w (marksOf (hasTarget kind) givens) ((h - suc (length cs)) * w) (rowFor (wantBy kind) w c) + rowsWorth kind w h givens cs
 
--- x is the greatest worth of k rows that end the board below a over b, which counts, or the number for none where there are none such
-pub data Greatest (halves : Bool) (rule : Rule) (w h : ℕ) (givens : List ℕ) (k a b x : ℕ) : Type 0 where
-  greatest : (cs : List ℕ) → GridEnding halves rule w h givens k a b cs → rowsWorth halves w h givens cs ≡ x → x ≤ mostLive halves .limit
-      → ((ds : List ℕ) → GridEnding halves rule w h givens k a b ds → rowsWorth halves w h givens ds ≤ x) → Greatest halves rule w h givens k a b x
-  noEnding : ((ds : List ℕ) → GridEnding halves rule w h givens k a b ds → ⊥) → x ≡ absent → Greatest halves rule w h givens k a b x
+-- x is the best worth of k rows that end the board below a over b, the greatest or with a target the least, and counts; or the number for none where
+-- there are none such
+pub data BestWorth (kind : Kind) (rule : Rule) (w h : ℕ) (givens : List ℕ) (k a b x : ℕ) : Type 0 where
+  bestEnding : (cs : List ℕ) → GridEnding kind rule w h givens k a b cs → rowsWorth kind w h givens cs ≡ x → x ≤ wantBy kind .limit
+      → ((ds : List ℕ) → GridEnding kind rule w h givens k a b ds → CountsNoBetter (hasTarget kind) (rowsWorth kind w h givens ds) x) → BestWorth kind rule w h givens k a b x
+  noEnding : ((ds : List ℕ) → GridEnding kind rule w h givens k a b ds → ⊥) → x ≡ absent → BestWorth kind rule w h givens k a b x
 
 -- layer i of a table is right: each of its entries (i, b, c) is the right one
-abbrev pub RightGridLayer : Bool → Rule → ℕ → ℕ → List ℕ → List ℕ → ℕ → Type 0
-RightGridLayer halves rule w h givens table i =
-    (b c : ℕ) → b < 2 ^ rowDigits halves w → c < 2 ^ rowDigits halves w
-    → readsOf (rowDigits halves w) table i b c ≡ rightEntry (kindOf halves (nextUnder rule) w h givens) (h - i) b c
+abbrev pub RightGridLayer : Kind → Rule → ℕ → ℕ → List ℕ → List ℕ → ℕ → Type 0
+RightGridLayer kind rule w h givens table i =
+    (b c : ℕ) → b < 2 ^ kindDigits kind w → c < 2 ^ kindDigits kind w
+    → readsOf (kindDigits kind w) table i b c ≡ rightEntry (gridRows kind rule w h givens) (h - i) b c
 
 -- over a table whose layer i + 1 is right, the rule of entry (i, a, b) gives the right entry; layer h reads no layer. And a right entry is the
--- greatest number of free live cells in rows i + 1 to h when row i - 1 is a and row i is b
-pub record EntryRight (halves : Bool) (rule : Rule) (w h : ℕ) (givens : List ℕ) (i a b : ℕ) : Type 0 where
-  pub from-below : (table : List ℕ) → (i < h → RightGridLayer halves rule w h givens table (i + 1))
-      → entry (kindOf halves (nextUnder rule) w h givens) (h - i) a b (readsOf (rowDigits halves w) table (i + 1) b)
-      ≡ rightEntry (kindOf halves (nextUnder rule) w h givens) (h - i) a b
-  pub means : Greatest halves rule w h givens (h - i) a b (rightEntry (kindOf halves (nextUnder rule) w h givens) (h - i) a b)
+-- greatest number of free live cells, or with a target the least number of live cells, in rows i + 1 to h when row i - 1 is a and row i is b
+pub record EntryRight (kind : Kind) (rule : Rule) (w h : ℕ) (givens : List ℕ) (i a b : ℕ) : Type 0 where
+  pub from-below : (table : List ℕ) → (i < h → RightGridLayer kind rule w h givens table (i + 1))
+      → entry (gridRows kind rule w h givens) (h - i) a b (readsOf (kindDigits kind w) table (i + 1) b)
+      ≡ rightEntry (gridRows kind rule w h givens) (h - i) a b
+  pub means : BestWorth kind rule w h givens (h - i) a b (rightEntry (gridRows kind rule w h givens) (h - i) a b)
 
 abbrev pub EntriesRight : Type 0
 EntriesRight =
-    (halves : Bool) (rule : Rule) (w h : ℕ) (givens : List ℕ) → SizedBy halves w h → (i a b : ℕ) → i ≤ h → b < 2 ^ rowDigits halves w
-    → EntryRight halves rule w h givens i a b
+    (kind : Kind) (rule : Rule) (w h : ℕ) (givens : List ℕ) → SizedBy (halvesOf kind) w h → (i a b : ℕ) → i ≤ h → b < 2 ^ kindDigits kind w
+    → EntryRight kind rule w h givens i a b
 
 -- ---- the score and all live cells
 -- the cells that are given live
@@ -110,7 +116,13 @@ GivensApart = (w h : ℕ) (givens board : List ℕ) → KeepsGivens w h givens b
 -- so the wanted board is the best by all live cells too
 abbrev pub SameBest : Type 0
 SameBest =
-    (halves : Bool) (rule : Rule) (w h : ℕ) (givens board : List ℕ) → OptimalBy halves rule w h givens board ↔ BestBy halves (population w h) rule w h givens board
+    (kind : Kind) (rule : Rule) (w h : ℕ) (givens board : List ℕ) → OptimalBy kind rule w h givens board ↔ BestBy kind (population w h) rule w h givens board
+
+-- ---- predecessors
+-- Req 08: a board is its own predecessor exactly when it is still
+abbrev pub StillIsOwnPredecessor : Type 0
+StillIsOwnPredecessor =
+    (rule : Rule) (w h : ℕ) (board : List ℕ) → Bytes 1 w h board → Predecessor rule w h board board ↔ Still rule (onPlane w h board)
 
 -- ---- edge threes
 -- Req 04 loses nothing: a grid that has a still board that keeps the givens passes check 14, whichever call makes it, and one that opening or a working

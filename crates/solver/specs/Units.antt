@@ -1,17 +1,20 @@
--- Document 01, "A job and its units": what a unit of a grid's job does, over the numbers that the table then holds, right or not.
+-- Document 01, "A job and its units": what a unit of a grid's job does, over the numbers that the table then holds, right or not. Of a job with a target
+-- `givens` is the target that is lent in their place.
 -- Assumes nothing.
 use mathlib.Core.List.{List}
 use Prim.Native.Nat.{ℕ}
+use Rattle.elimination.specs.Kind as Elimination
 use Rattle.elimination.specs.Job.{Setup}
 use Rattle.rule.specs.Rule.{nextUnder}
 use Rattle.rule.specs.declared.Rule.{Rule}
-use Rattle.job.specs.Jobs.{halvesOf, kindDigits, planOf}
+use Rattle.job.specs.Jobs.{halvesOf, hasTarget, kindDigits, planOf}
 use Rattle.job.specs.declared.Kind.{Kind}
 use Rattle.service.specs.Service.{Service}
 use Rattle.service.specs.Service as Shared
 use Rattle.service.specs.Units.{unitBy}
 use Rattle.board_rows.specs.Rows.{putRow}
-use Rattle.score_table.specs.ScoreTable.{kindOf}
+use Rattle.score_table.specs.ScoreTable.{wantOf, kindFor}
+use Rattle.score_table.specs.declared.Want.{Want}
 use Rattle.solver.specs.Working.{lentCheck}
 
 -- a job with the table and the board that it is lent, and what a unit comes to
@@ -21,11 +24,18 @@ State = Shared.State (List ℕ)
 abbrev pub Step : Type 0
 Step = Shared.Step (List ℕ)
 
+-- what is wanted of a grid's rows, by the kind of job, and row elimination over them
+abbrev pub wantBy : Kind → Want
+wantBy kind = wantOf (halvesOf kind) (hasTarget kind)
+
+abbrev pub gridRows : Kind → Rule → ℕ → ℕ → List ℕ → Elimination.Kind ℕ
+gridRows kind rule w h givens = kindFor (wantBy kind) (nextUnder rule) w h givens
+
 -- a grid's job: by the plan of its kind entries are filled by the rules of a score table and rows are chosen, and each is written into its part of the
 -- board, by how the kind holds rows
 abbrev pub setupOf : Kind → Rule → ℕ → ℕ → List ℕ → Setup ℕ (List ℕ)
 setupOf kind rule w h givens = record {
-  kind = kindOf (halvesOf kind) (nextUnder rule) w h givens;
+  kind = gridRows kind rule w h givens;
   height = h;
   write = putRow (kindDigits kind w) w;
   plan = planOf kind w h;

@@ -1,4 +1,5 @@
 // Choosing: one row of the board a unit.
+use crate::wants;
 use job::Chosen;
 use job::Job;
 use score_table::Picked;
@@ -29,7 +30,7 @@ pub fn choose(
     let w = job.width;
     let h = job.height;
     let t = job.numbers();
-    let want = score_table::most_live(kind.halves());
+    let want = wants::want_by(kind);
     match score_table::choose_row(next, want, w, h, r, source, t.above, t.last, givens, table) {
         Picked::Nothing => {
             if r != 0 {

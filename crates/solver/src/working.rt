@@ -3,6 +3,7 @@ use crate::Status;
 use crate::Worked;
 use crate::choosing;
 use crate::choosing::Stepped;
+use crate::wants;
 use board::Check;
 use board::Refusal;
 use job::Job;
@@ -19,7 +20,7 @@ ghost use Rattle.solver.specs.Units.{grid};
 ghost use Rattle.solver.specs.Calls.{resultOf};
 ghost use Rattle.solver.specs.Inner.{Lent, lentState};
 
-// The checks of a working call: 7 as pausing, then 3, 4, 14, 15, 5, 6.
+// The checks of a working call: 7 as pausing, then 3, 4, 14, 15, 5, 6; with a target 3, 4, 5, 6.
 pub fn check_work(job: Job, givens: &[u8], table: &[u16], board: &[u8]) -> Check
     ensures { λ r. ⌜ checkSays r ≡ workCheck grid job (now (givens .entry)) (now (table .entry)) (now (board .entry)) ⌝ }
 {
@@ -100,7 +101,7 @@ pub fn work_on(
             } => {
                 let kind = job.kind;
                 let count = entries_now(kind.row_digits(job.width), entry, left);
-                let want = score_table::most_live(kind.halves());
+                let want = wants::want_by(kind);
                 layers::fill(
                     &next,
                     want,

@@ -35,7 +35,8 @@ codeOf (refuses n values) = 2003
 abbrev pub kindAt : ℕ → Option Kind
 kindAt n =
     cond (eqb n (kindNumber Kind.Ordinary)) (some Kind.Ordinary)
-    (cond (eqb n (kindNumber Kind.TwoLayers)) (some Kind.TwoLayers) (cond (eqb n (kindNumber Kind.Mirror)) (some Kind.Mirror) none))
+    (cond (eqb n (kindNumber Kind.TwoLayers)) (some Kind.TwoLayers)
+    (cond (eqb n (kindNumber Kind.Mirror)) (some Kind.Mirror) (cond (eqb n (kindNumber Kind.Predecessor)) (some Kind.Predecessor) none)))
 
 -- ---- the function
 -- the answer, and the table and the board afterwards

@@ -14,9 +14,9 @@ const INFEASIBLE: usize = 2002;
 
 const REFUSED: usize = 2003;
 
-// Opens a job under Conway's rule, of the kind with a number, 0 ordinary, 1 two layers, 2 mirror boards, and makes so many working calls of an allowance.
-// The score where the last one answers it; 2001 unfinished, also where no call is made; 2002 no board; 2003 the number of no kind, or refused, by opening
-// or by the last call.
+// Opens a job under Conway's rule, of the kind with a number, 0 ordinary, 1 two layers, 2 mirror boards, 3 predecessors of a target, which is then lent for
+// the givens, and makes so many working calls of an allowance. The score where the last one answers it; 2001 unfinished, also where no call is made; 2002
+// no board; 2003 the number of no kind, or refused, by opening or by the last call.
 #[no_mangle]
 pub extern "C" fn work_in_calls(
     kind: usize,
@@ -34,6 +34,7 @@ pub extern "C" fn work_in_calls(
         0 => Kind::Ordinary,
         1 => Kind::TwoLayers,
         2 => Kind::Mirror,
+        3 => Kind::Predecessor,
         _ => return REFUSED,
     };
     match job::open(kind, rule::conway(), w, h, givens) {

@@ -158,6 +158,7 @@ pub fn number_of(kind: Kind) -> usize {
         Kind::Ordinary => 0,
         Kind::TwoLayers => 1,
         Kind::Mirror => 2,
+        Kind::Predecessor => 3,
     }
 }
 

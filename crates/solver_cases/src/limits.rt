@@ -29,6 +29,10 @@ pub fn try_all() {
         b"jobs of two layers of the same sizes, numbers taken beside their ends: ",
         try_kind(Kind::TwoLayers, 1918894140, 7380),
     );
+    print(
+        b"predecessor jobs of the same sizes, numbers taken beside their ends: ",
+        try_kind(Kind::Predecessor, 62914620, 300),
+    );
 }
 
 fn print(name: &[u8], t: Tally) {

@@ -1,4 +1,4 @@
-// Numbers around the edges of the rules of both kinds: which of them resuming and pausing take.
+// Numbers around the edges of the rules of ordinary jobs, those of two layers and predecessor jobs: which of them resuming and pausing take.
 use crate::calls;
 use crate::marks;
 use crate::random;
@@ -40,6 +40,15 @@ pub fn try_all() {
         b"jobs of two layers around the rules that pausing takes: ",
         two.paused,
     );
+    let before = try_kind(Kind::Predecessor);
+    print(
+        b"numbers around the rules of predecessor jobs that resuming takes: ",
+        before.resumed,
+    );
+    print(
+        b"predecessor jobs around the rules that pausing takes: ",
+        before.paused,
+    );
     try_kinds();
 }
 
@@ -60,7 +69,7 @@ fn try_kind(kind: Kind) -> Tallies {
     Tallies { resumed, paused }
 }
 
-// Numbers of either kind, with a kind's number of 0, 1, 2 or far above, resumed as either, and jobs with them.
+// Numbers of ordinary jobs and of those of two layers, with a kind's number of 0 to 4 or far above, resumed as either, and jobs with them.
 fn try_kinds() {
     let mut ordinary = Tally { taken: 0, wrong: 0 };
     let mut two = ordinary;
@@ -93,13 +102,13 @@ fn random_kind(seed: usize, place: usize) -> Kind {
     }
 }
 
-// The numbers of a job with the number of a kind, the first number of none, or one far above.
+// The numbers of a job with the number of either kind, of another, the first number of none, or one far above.
 fn with_any_kind(c: Checkpoint, seed: usize) -> Checkpoint {
     let mut next = c;
     next.kind = match random::below(8, seed, 700004) {
         0..=2 => 0,
         3..=5 => 1,
-        6 => 2,
+        6 => 2 + seed % 3,
         _ => num::wrapping_sub_usize(0, num::wrapping_add_usize(seed % 3, 1)),
     };
     next
@@ -218,7 +227,7 @@ fn is_job(job: Job) -> bool {
     fits && unit::takes(kind, calls::numbers_of(job))
 }
 
-// A job of some numbers in any stage. An ordinary one that fills has no rows.
+// A job of some numbers in any stage. One that fills has no rows, unless it is one of two layers.
 fn random_job(kind: Kind, c: Checkpoint, seed: usize) -> Job {
     let stage = random::below(4, seed, 700000);
     let numbers = match kind {
@@ -318,7 +327,7 @@ fn random_rule(seed: usize) -> Rule {
     }
 }
 
-// Where an ordinary job of a mark stands, at the ends of filling and choosing, beside them, or anywhere.
+// Where an ordinary or a predecessor job of a mark stands, at the ends of filling and choosing, beside them, or anywhere.
 fn random_units(s: Size, mark: usize, seed: usize) -> usize {
     let end = num::wrapping_add_usize(s.entries, s.h);
     match random::below(16, seed, 800004) {

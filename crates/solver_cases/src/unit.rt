@@ -230,10 +230,11 @@ pub fn rule_of(c: Checkpoint) -> Rule {
     }
 }
 
-// The kind of a number; the ordinary one where no kind has it.
+// The kind of a number, of those tried here; the ordinary one for any other number.
 fn kind_of(number: usize) -> Kind {
     match number {
         1 => Kind::TwoLayers,
+        3 => Kind::Predecessor,
         _ => Kind::Ordinary,
     }
 }

@@ -1,7 +1,7 @@
 -- What calls answer of a grid and of the turned grid: each answer of a job that has ended says the grid's best score, and there is one.
 -- Assumes nothing.
-use mathlib.Core.Path.{_≡_, refl, sym, _∙_, ap, subst}
-use mathlib.Core.Bool.{Bool, true, false, cond}
+use mathlib.Core.Path.{_≡_, refl, sym, _∙_, ap}
+use mathlib.Core.Bool.{Bool, true, false, cond, false≢true}
 use mathlib.Core.Option.{Option, none, some}
 use mathlib.Core.List.{List, [], _∷_}
 use mathlib.Core.Logic.{_↔_, inl, inr}
@@ -16,12 +16,12 @@ use Rattle.board.proofs.Checks.{size-passes, checks-right}
 use Rattle.rule.specs.Rule.{ruleFits, ruleCheck, gridCheck}
 use Rattle.rule.specs.declared.Rule.{Rule}
 use Rattle.edges.specs.Edges.{firstEdgeThree, bornOn3, edgeCheck}
-use Rattle.job.specs.Jobs.{halvesOf, readCheck, openRule}
+use Rattle.job.specs.Jobs.{hasTarget, readCheck, openRule}
 use Rattle.job.specs.declared.Kind.{Kind}
 use Rattle.service.specs.Service.{unfinished, finished, infeasible, workOf}
 use Rattle.service.specs.Demand.{Call, work, pause, resume, afterCall, Each, Answers, Outcome, solved, unsolvable}
 use Rattle.service.specs.JobKinds.{aimOf}
-use Rattle.solver.specs.Grid.{SolutionBy, OptimalBy, score}
+use Rattle.solver.specs.Grid.{SolutionBy, OptimalBy, countBy}
 use Rattle.solver.specs.Units.{State, grid}
 use Rattle.solver.specs.Demand.{gridKind, ThirdDemand}
 use Rattle.solver.proofs.Third.{third-demand}
@@ -29,7 +29,7 @@ use Rattle.runner.specs.Solving.{memoryCheck, solveCheck, Ends, SolvesTo}
 use Rattle.runner.specs.Solving as Solving
 use Rattle.turns.specs.Turn.{Turn, turnedWidth, turnedHeight, turnedBytes}
 use Rattle.turned_grids.specs.Grids.{Turnable, BestScore, best, noBoard}
-use Rattle.turned_grids.specs.Calls.{NotMirror, refusalIn, SameOpening, lastAnswer, SameOutcome, Said, FairCalls, SameAnswer, SameButPlace, SameSolved}
+use Rattle.turned_grids.specs.Calls.{OfAllBoards, refusalIn, SameOpening, lastAnswer, SameOutcome, Said, FairCalls, SameAnswer, SameButPlace, SameSolved}
 use Rattle.turned_grids.proofs.Grids.{grid-turned, same-best}
 use Rattle.turned_grids.proofs.EdgeThrees.{edges-turned}
 
@@ -43,10 +43,10 @@ then-gives-last (gives us) (gives vs) values = refl
 then-gives-last (gives us) (refuses n vs) values = refl
 then-gives-last (refuses n us) b values = refl
 
-opening-refusal : (kind : Kind) → NotMirror kind → (rule : Rule) {w h : ℕ} {g : List ℕ} → Givens w h g
+opening-refusal : (kind : Kind) → OfAllBoards kind → (rule : Rule) {w h : ℕ} {g : List ℕ} → Givens w h g
     → refusalIn (openRule kind rule w h g) ≡ refusalIn (ruleCheck rule then edgeCheck rule w h g)
 unfolding openRule gridCheck readCheck
-opening-refusal kind k rule {w} {h} {g} G = rw (k, size-passes (G .size), givens-pass G) (then-gives-last (ruleCheck rule) (edgeCheck rule w h g) _)
+opening-refusal kind k rule {w} {h} {g} G = rw (k .whole, k .givens, size-passes (G .size), givens-pass G) (then-gives-last (ruleCheck rule) (edgeCheck rule w h g) _)
 
 both-or-neither : (o o′ : Option ℕ) (n : ℕ) → refuseAt o n ≡ passed ↔ refuseAt o′ n ≡ passed → refusalIn (refuseAt o n) ≡ refusalIn (refuseAt o′ n)
 both-or-neither none none n f = refl
@@ -88,15 +88,20 @@ same-said : {rule : Rule} (t : Turn) {w h : ℕ} {g : List ℕ} → Turnable w h
 same-said {rule} t T A B = A .is-said ∙ ap scoreSays (same-best rule t T (A .is-best) (B .is-best)) ∙ sym (B .is-said)
 
 -- ---- jobs
--- of all boards, mirror boards or not
-module _ (kind : Kind) (k : NotMirror kind) (rule : Rule) (w h : ℕ) (g : List ℕ) where
-  wanted-best : (b : List ℕ) → OptimalBy (halvesOf kind) rule w h g b → BestScore rule w h g (some (score w h g b))
-  wanted-best b B = best b (subst (λ (x : Bool). OptimalBy x rule w h g b) k B)
+-- such a job wants the best of all boards, and counts its score
+wanted-best : (kind : Kind) → OfAllBoards kind → (rule : Rule) (w h : ℕ) (g b : List ℕ) → OptimalBy kind rule w h g b → BestScore rule w h g (some (countBy (hasTarget kind) w h g b))
+wanted-best Kind.Ordinary k rule w h g b B = best b B
+wanted-best Kind.TwoLayers k rule w h g b B = best b B
+wanted-best Kind.Mirror k rule w h g b B = absurd (false≢true (sym (k .whole)))
+wanted-best Kind.Predecessor k rule w h g b B = absurd (false≢true (sym (k .givens)))
 
-  wanted-none : ((b : List ℕ) → SolutionBy (halvesOf kind) rule w h g b → ⊥) → BestScore rule w h g none
-  wanted-none n = noBoard (λ b S. n b (subst (λ (x : Bool). SolutionBy x rule w h g b) (sym k) S))
+wanted-none : (kind : Kind) → OfAllBoards kind → (rule : Rule) (w h : ℕ) (g : List ℕ) → ((b : List ℕ) → SolutionBy kind rule w h g b → ⊥) → BestScore rule w h g none
+wanted-none Kind.Ordinary k rule w h g n = noBoard n
+wanted-none Kind.TwoLayers k rule w h g n = noBoard n
+wanted-none Kind.Mirror k rule w h g n = absurd (false≢true (sym (k .whole)))
+wanted-none Kind.Predecessor k rule w h g n = absurd (false≢true (sym (k .givens)))
 
-module _ {kind : Kind} (k : NotMirror kind) {rule : Rule} {w h : ℕ} {g : List ℕ} {calls : List (Call grid)} {s : State} where
+module _ {kind : Kind} (k : OfAllBoards kind) {rule : Rule} {w h : ℕ} {g : List ℕ} {calls : List (Call grid)} {s : State} where
   outcome-best : (o : Outcome grid (aimOf (gridKind kind rule w h g)) calls s) → SaysBest rule w h g (lastAnswer o)
   outcome-best (solved b final W S) = record { score = _; is-best = wanted-best kind k rule w h g b (W .wanted); is-said = W .says }
   outcome-best (unsolvable n S) = record { score = none; is-best = wanted-none kind k rule w h g n; is-said = refl }
@@ -134,7 +139,7 @@ same-answer kind kind′ k k′ rule t w h g T calls others s s′ F F′ a b n 
     ∙ sym (outcome-said F′ m y (outcome F′))
 
 -- ---- whole jobs in one call
-ends-best : {kind : Kind} → NotMirror kind → {rule : Rule} {w h : ℕ} {g t β t′ β′ : List ℕ} {says : Answer} → Ends kind rule w h g t β says t′ β′ → SaysBest rule w h g says
+ends-best : {kind : Kind} → OfAllBoards kind → {rule : Rule} {w h : ℕ} {g t β t′ β′ : List ℕ} {says : Answer} → Ends kind rule w h g t β says t′ β′ → SaysBest rule w h g says
 ends-best {kind} k {rule} {w} {h} {g} (Solving.best B e F) = record { score = _; is-best = wanted-best kind k rule w h g _ B; is-said = e }
 ends-best {kind} k {rule} {w} {h} {g} (Solving.none n e same F) = record { score = none; is-best = wanted-none kind k rule w h g n; is-said = e }
 
@@ -144,10 +149,10 @@ at-passed (gives us) none n = refl
 at-passed (gives us) (some p) n = refl
 at-passed (refuses m us) o n = refl
 
-solving-check : (kind : Kind) → NotMirror kind → (rule : Rule) {w h : ℕ} {g : List ℕ} (t β : List ℕ) → Givens w h g → memoryCheck kind w h t β ≡ passed
+solving-check : (kind : Kind) → OfAllBoards kind → (rule : Rule) {w h : ℕ} {g : List ℕ} (t β : List ℕ) → Givens w h g → memoryCheck kind w h t β ≡ passed
     → solveCheck kind rule w h g t β ≡ (ruleCheck rule then edgeCheck rule w h g)
 unfolding solveCheck gridCheck readCheck edgeCheck
-solving-check kind k rule {w} {h} {g} t β G room = rw (k, size-passes (G .size), givens-pass G, room) (at-passed (ruleCheck rule) (edgeFound rule w h g) 14)
+solving-check kind k rule {w} {h} {g} t β G room = rw (k .whole, k .givens, size-passes (G .size), givens-pass G, room) (at-passed (ruleCheck rule) (edgeFound rule w h g) 14)
 
 same : {a b : Answer} → a ≡ b → SameButPlace a b
 same e = record { refused = ap refusalIn e; ended = λ n. e }
@@ -162,7 +167,7 @@ both-refuse n p q = record {
     some-none : {n : ℕ} → _≡_ {A = Option ℕ} (some n) none → ⊥
     some-none z = let y : _≡_ {A = ℕ} 0 1 = cc in omega arith
 
-module _ (kind kind′ : Kind) (k : NotMirror kind) (k′ : NotMirror kind′) (rule : Rule) (t : Turn) {w h : ℕ} {g : List ℕ} (T : Turnable w h g) where
+module _ (kind kind′ : Kind) (k : OfAllBoards kind) (k′ : OfAllBoards kind′) (rule : Rule) (t : Turn) {w h : ℕ} {g : List ℕ} (T : Turnable w h g) where
   -- by what the checks come to: the rule is barred, both grids have an edge three, or neither has
   same-by : (fits : Bool) (o o′ : Option ℕ) → refuseAt o 14 ≡ passed ↔ refuseAt o′ 14 ≡ passed → {τ β τ₁ β₁ τ′ β′ τ₂ β₂ : List ℕ} {a b : Answer}
       → SolvesTo (refuseUnless fits 13 then refuseAt o 14) kind rule w h g τ β a τ₁ β₁

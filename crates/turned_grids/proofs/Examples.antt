@@ -6,7 +6,7 @@ use mathlib.Core.List.{List}
 use Prim.Native.Nat.{ℕ}
 use Rattle.board.specs.Search.{firstNot, allBelow}
 use Rattle.board.specs.Sums.{total}
-use Rattle.board.specs.Checks.{sizeCheck, givensCheck, tableSize}
+use Rattle.board.specs.Checks.{sizeCheck, marksCheck, tableSize}
 use Rattle.board.specs.Answers.{gives}
 use Rattle.board.specs.Lists.{listed}
 use Rattle.rule.specs.Rule.{ruleCheck, gridCheck, nextUnder, conwayRule}
@@ -39,7 +39,7 @@ fair-call : {kind : Kind} {w h : ℕ} {g : List ℕ} → gives (jobSays (start k
 fair-call e = record { result = _; opens = record { says = e; job = λ j e. handed e }; ready = refl; fair = (λ p. (refl, refl, refl), tt) }
 
 pub examples : Examples
-unfolding listed source turnedList firstNot allBelow total sizeCheck givensCheck entry ruleCheck gridCheck nextUnder cellOf becomes stepsTo markKept rowKept cellWorth rowWorth tableSize unitsFit rowsChosen rowsFit numbersFit chosenFrom checkpointFits jobFits stageOf givenLiveAt edgeThree edgeCheck readCheck openRule workCheck lentCheck reads fillEntry plan planFrom unitBy unitOf worksOn workOf
+unfolding listed source turnedList firstNot allBelow total sizeCheck marksCheck entry ruleCheck gridCheck nextUnder cellOf becomes stepsTo markKept rowKept cellWorth rowWorth tableSize unitsFit rowsChosen rowsFit numbersFit chosenFrom checkpointFits jobFits stageOf givenLiveAt edgeThree edgeCheck readCheck openRule workCheck lentCheck reads fillEntry plan planFrom unitBy unitOf worksOn workOf
 examples = record {
   no-board = record { fair = fair-call refl; said = inl (refl, refl) };
   no-board-turned = record { fair = fair-call refl; said = inl (refl, refl) };

@@ -1,7 +1,7 @@
 -- Turned boards and grids: what holds of the two reflections that all eight turns are made of holds of all, and back by the inverse.
 -- Assumes nothing.
 use mathlib.Core.Path.{_≡_, refl, sym, _∙_, ap, ap₂, subst}
-use mathlib.Core.Bool.{false}
+use mathlib.Core.Bool.{false≢true}
 use mathlib.Core.Option.{Option, some}
 use mathlib.Core.List.{List}
 use Prim.Native.Nat.{ℕ, _*_, _<_, _≤_}
@@ -14,6 +14,7 @@ use Rattle.rule.specs.Rule.{Allowed}
 use Rattle.rule.specs.declared.Rule.{Rule}
 use Rattle.life.specs.Plane.{onPlane, Still}
 use Rattle.score_table.specs.Rows.{cellWorth}
+use Rattle.job.specs.declared.Kind.{Kind}
 use Rattle.solver.specs.Grid.{KeepsGivens, Solution, Optimal, score}
 use Rattle.solver.specs.Theorems.{BestOrNone}
 use Rattle.solver.specs.Theorems as Solver
@@ -143,9 +144,9 @@ module _ (rule : Rule) (t : Turn) {w h : ℕ} {g : List ℕ} (T : Turnable w h g
   same-score {b} {c} B C =
       omega (
         arith,
-        C .most (turnedBytes t w h b) (turned-solution (B .solution)),
+        C .unbeaten (turnedBytes t w h b) (turned-solution (B .solution)),
         score-turned t w h g b,
-        B .most (turnedBytes (inverse t) W H c) (back-solution (C .solution)),
+        B .unbeaten (turnedBytes (inverse t) W H c) (back-solution (C .solution)),
         back-score c,
       )
 
@@ -163,9 +164,9 @@ solution-turned rule t w h g b T e = (
 
 -- ---- the best score
 has-best : {rule : Rule} → Allowed rule → {w h : ℕ} → Sized w h → (g : List ℕ) → (x : Option ℕ) × BestScore rule w h g x
-has-best {rule} allowed {w} {h} z g = go (choice-is-optimal false rule allowed w h g (size-by z))
+has-best {rule} allowed {w} {h} z g = go (choice-is-optimal Kind.Ordinary rule allowed w h g (λ e. absurd (false≢true e)) (size-by z))
   where
-    go : BestOrNone false rule w h g → (x : Option ℕ) × BestScore rule w h g x
+    go : BestOrNone Kind.Ordinary rule w h g → (x : Option ℕ) × BestScore rule w h g x
     go (Solver.best b B rows is) = (some (score w h g b), best b B)
     go (Solver.none n is) = (Option.none, noBoard n)
 

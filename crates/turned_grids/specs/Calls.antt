@@ -1,5 +1,5 @@
--- Req 07, of what calls answer: a grid and its turned grid open alike, their jobs, of any kind but mirror jobs, come to the same answer, and so do whole
--- jobs in one call.
+-- Req 07, of what calls answer: a grid and its turned grid open alike, their ordinary jobs and jobs of two layers come to the same answer, and so do
+-- whole jobs in one call.
 -- Assumes nothing.
 use mathlib.Core.Path.{_≡_}
 use mathlib.Core.Bool.{false}
@@ -9,7 +9,7 @@ use mathlib.Core.List.{List, [], _∷_}
 use Prim.Native.Nat.{ℕ}
 use Rattle.board.specs.Answers.{Answer, gives, refuses, passed}
 use Rattle.rule.specs.declared.Rule.{Rule}
-use Rattle.job.specs.Jobs.{halvesOf, openRule}
+use Rattle.job.specs.Jobs.{halvesOf, hasTarget, openRule}
 use Rattle.job.specs.Calls.{Opens}
 use Rattle.job.specs.declared.Kind.{Kind}
 use Rattle.job.specs.declared.JobResult.{JobResult}
@@ -23,9 +23,10 @@ use Rattle.runner.specs.declared.Solved.{Solved}
 use Rattle.turns.specs.Turn.{Turn, turnedWidth, turnedHeight, turnedBytes}
 use Rattle.turned_grids.specs.Grids.{Turnable}
 
--- mirror jobs aside
-abbrev pub NotMirror : Kind → Type 0
-NotMirror kind = halvesOf kind ≡ false
+-- jobs that seek among all still boards that keep the givens: mirror jobs aside, and those with a target, which have no givens
+pub record OfAllBoards (kind : Kind) : Type 0 where
+  pub whole : halvesOf kind ≡ false
+  pub givens : hasTarget kind ≡ false
 
 -- ---- opening
 -- the number of a refusal, whatever place comes with it
@@ -33,10 +34,10 @@ abbrev pub refusalIn : Answer → Option ℕ
 refusalIn (gives values) = none
 refusalIn (refuses n values) = some n
 
--- A grid and its turned grid open alike, as jobs of any kinds but mirror jobs and under any rule: both are opened, or both are turned away by one number.
+-- A grid and its turned grid open alike, as jobs of any such kinds and under any rule: both are opened, or both are turned away by one number.
 abbrev pub SameOpening : Type 0
 SameOpening =
-    (kind kind′ : Kind) → NotMirror kind → NotMirror kind′ → (rule : Rule) (t : Turn) (w h : ℕ) (givens : List ℕ) → Turnable w h givens →
+    (kind kind′ : Kind) → OfAllBoards kind → OfAllBoards kind′ → (rule : Rule) (t : Turn) (w h : ℕ) (givens : List ℕ) → Turnable w h givens →
     refusalIn (openRule kind rule w h givens) ≡ refusalIn (openRule kind′ rule (turnedWidth t w h) (turnedHeight t w h) (turnedBytes t w h givens))
 
 -- ---- jobs
@@ -45,11 +46,11 @@ abbrev pub lastAnswer : {A : Aim (List ℕ)} {calls : List (Call grid)} {s : Sta
 lastAnswer (solved board final wanted served) = final
 lastAnswer (unsolvable noSolution served) = infeasible
 
--- What a job for a grid comes to and what one for the turned grid comes to have the same last answer, whatever their kinds, mirror jobs aside, their
+-- What a job for a grid comes to and what one for the turned grid comes to have the same last answer, whichever of these kinds they are, and whatever their
 -- calls, tables and boards.
 abbrev pub SameOutcome : Type 0
 SameOutcome =
-    (kind kind′ : Kind) → NotMirror kind → NotMirror kind′ → (rule : Rule) (t : Turn) (w h : ℕ) (givens : List ℕ) → Turnable w h givens →
+    (kind kind′ : Kind) → OfAllBoards kind → OfAllBoards kind′ → (rule : Rule) (t : Turn) (w h : ℕ) (givens : List ℕ) → Turnable w h givens →
     (calls others : List (Call grid)) (s s′ : State) (o : Outcome grid (aimOf (gridKind kind rule w h givens)) calls s)
     (o′ : Outcome grid (aimOf (gridKind kind′ rule (turnedWidth t w h) (turnedHeight t w h) (turnedBytes t w h givens))) others s′)
     → lastAnswer o ≡ lastAnswer o′
@@ -72,11 +73,11 @@ pub record FairCalls (kind : Kind) (rule : Rule) (w h : ℕ) (givens : List ℕ)
   pub ready : result ≡ JobResult.Ready (s .job)
   pub fair : Each grid (Fair grid givens) calls s
 
--- A job is opened for a grid, another for the turned grid, each of any kind but a mirror job, and each is worked on by calls of its own. A call of the
+-- A job is opened for a grid, another for the turned grid, each of any such kind, and each is worked on by calls of its own. A call of the
 -- one and a call of the other that pass their checks and answer other than "unfinished" answer the same: the same score, or both that there is no board.
 abbrev pub SameAnswer : Type 0
 SameAnswer =
-    (kind kind′ : Kind) → NotMirror kind → NotMirror kind′ → (rule : Rule) (t : Turn) (w h : ℕ) (givens : List ℕ) → Turnable w h givens → (calls others : List (Call grid)) (s s′ : State)
+    (kind kind′ : Kind) → OfAllBoards kind → OfAllBoards kind′ → (rule : Rule) (t : Turn) (w h : ℕ) (givens : List ℕ) → Turnable w h givens → (calls others : List (Call grid)) (s s′ : State)
     → FairCalls kind rule w h givens calls s
     → FairCalls kind′ rule (turnedWidth t w h) (turnedHeight t w h) (turnedBytes t w h givens) others s′
     → (a b : Answer) → (a ≡ unfinished → ⊥) → (b ≡ unfinished → ⊥) → Said a calls s → Said b others s′ → a ≡ b
@@ -87,11 +88,10 @@ pub record SameButPlace (a b : Answer) : Type 0 where
   pub refused : refusalIn a ≡ refusalIn b
   pub ended : refusalIn a ≡ none → a ≡ b
 
--- `runner::solve` answers the same of a grid and of the turned grid, as jobs of any kinds but mirror jobs and under any rule, over memory that each has
--- room in
+-- `runner::solve` answers the same of a grid and of the turned grid, as jobs of any such kinds and under any rule, over memory that each has room in
 abbrev pub SameSolved : Type 0
 SameSolved =
-    (kind kind′ : Kind) → NotMirror kind → NotMirror kind′ → (rule : Rule) (t : Turn) (w h : ℕ) (givens : List ℕ) → Turnable w h givens →
+    (kind kind′ : Kind) → OfAllBoards kind → OfAllBoards kind′ → (rule : Rule) (t : Turn) (w h : ℕ) (givens : List ℕ) → Turnable w h givens →
     (table board left leftBoard table′ board′ left′ leftBoard′ : List ℕ) (r r′ : Solved)
     → memoryCheck kind w h table board ≡ passed → memoryCheck kind′ (turnedWidth t w h) (turnedHeight t w h) table′ board′ ≡ passed
     → Solves kind rule w h givens table board r left leftBoard

@@ -13,7 +13,7 @@ use Rattle.rule.specs.Rule.{entryOf}
 use Rattle.elimination.specs.Kind.{choose}
 use Rattle.elimination.specs.Table.{reads}
 use Rattle.board.proofs.Widths.{width-le}
-use Rattle.score_table.specs.Rows.{rowWorth, digitsOf}
+use Rattle.score_table.specs.Rows.{rowWorth, marksOf, targetRow, digitsOf, rowFor}
 use Rattle.score_table.specs.ScoreTable.{kindFor}
 use Rattle.score_table.specs.Inner.{Memory, choiceOf}
 use Rattle.score_table.specs.Calls.{callFits, layerFits}
@@ -71,14 +71,21 @@ first-room : (c : tie.Else5) → let g = start c .args in
     g .source + g .last * c .before .before .row-codes .result + 2 ^ digitsOf (g .want) (g .w) ≤ length (g .table .now)
 first-room c = layer-room _ _ _ _ _ (two (c .before .before)) (below c) (leb-true _ _ (layered (c .before .before .before)))
 
+-- what the row above has to become
+becomes : (c : tie.After-target-row) → let g = start (c .before .before) .args in
+    c .target-row .result ≡ targetRow (g .want .predecessor) (g .w) (g .givens .now) (g .r) (rowFor (g .want) (g .w) (g .last))
+becomes c =
+    let g = start (c .before .before) .args in
+    c .target-row .ensures .0 ∙ ap (targetRow (g .want .predecessor) (g .w) (g .givens .now) (g .r)) (c .before .row-for .ensures .0)
+
 -- what the search found is the rule's choice
-choice : (b : tie.After-best-row) → let g = start (b .before .before) .args in
+choice : (b : tie.After-best-row) → let g = start (b .before .before .before) .args in
     choiceOf (b .best-row .result)
     ≡ choose (kindFor (g .want) (entryOf (g .next .now)) (g .w) (g .h) (g .givens .now)) (g .h - suc (g .r)) (g .above) (g .last)
     (reads (kindFor (g .want) (entryOf (g .next .now)) (g .w) (g .h) (g .givens .now)) (g .table .now) (g .source) (g .last))
 choice b =
-    let d = b .before .before in
-    found-row _ _ _ _ _ _ _ _ _ _ _ _ (rw (two (d .before .before))) (b .before .row-for .ensures .0) _ (b .best-row .ensures) (inside d)
+    let d = b .before .before .before in
+    found-row _ _ _ _ _ _ _ _ _ _ _ _ (rw (two (d .before .before))) (becomes (b .before)) _ (b .best-row .ensures) (inside d)
 
 fits-requires : tie.Need-fits-requires
 fits-requires c κs = search needs
@@ -129,10 +136,13 @@ add-first c = omega (arith, first-room c)
 row-for-requires : tie.Need-row-for-requires
 row-for-requires c κs = (lent (fitted c) .width, below c)
 
+target-row-requires : tie.Need-target-row-requires
+target-row-requires c κs = let d = c .before in (wide d, c .row-for .ensures .1, omega (arith, inside d, lent (fitted d) .low), omega (arith, cells-room d))
+
 best-row-requires : tie.Need-best-row-requires
 best-row-requires c κs =
-    let d = c .before in
-    (lent (fitted d) .width, over d, below d, c .row-for .ensures .1, cells-room d, omega (arith, first-room d))
+    let d = c .before .before in
+    (lent (fitted d) .width, over d, below d, c .target-row .ensures .1, cells-room d, omega (arith, first-room d))
 
 enum-told : tie.Need-enum-told
 enum-told c = search needs
@@ -143,15 +153,15 @@ enum-known-row c = search needs
 row-for-requires-2 : tie.Need-row-for-requires-2
 row-for-requires-2 c κs =
     let b = c .before .before .before in
-    (lent (fitted (b .before .before)) .width, b .best-row .ensures .row-lt _ _ (c .before .row .given .1))
+    (lent (fitted (b .before .before .before)) .width, b .best-row .ensures .row-lt _ _ (c .before .row .given .1))
 
 row-worth-requires : tie.Need-row-worth-requires
-row-worth-requires c κs = let d = c .before .before .before .before .before .before in (wide d, cells-room d)
+row-worth-requires c κs = let d = c .before .before .before .before .before .before .before in (wide d, cells-room d)
 
 returns-6 : tie.Need-returns-6
 returns-6 c =
     let b = c .before .before in
-    let d = b .before .before in
+    let d = b .before .before .before in
     picks-choice _ _ _ _ _ _ _ _ _ _ (fitting (fitted d)) (inside d) (layered (d .before .before .before)) (over d) (below d)
     (sym (ap choiceOf (c .enum-told .given .1)) ∙ choice b)
 
@@ -159,11 +169,11 @@ returns-7 : tie.Need-returns-7
 returns-7 c =
     let r = c .before .before .before in
     let b = r .before .before in
-    let d = b .before .before in
+    let d = b .before .before .before in
     let g = start d .args in
     picks-row _ _ _ _ _ _ _ _ _ _ (fitting (fitted d)) (inside d) (layered (d .before .before .before)) (over d) (below d)
     (sym (ap choiceOf (r .row .given .1)) ∙ choice b)
-    (c .row-worth .ensures .0 ∙ ap (rowWorth (g .w) (g .givens .now) (g .r * g .w)) (c .before .row-for2 .ensures .0))
+    (c .row-worth .ensures .0 ∙ ap (rowWorth (g .w) (marksOf (g .want .predecessor) (g .givens .now)) (g .r * g .w)) (c .before .row-for2 .ensures .0))
 
 pub choose-row-spec : {M : Type 1} → statement M
 choose-row-spec =
@@ -182,6 +192,7 @@ choose-row-spec =
     mul-first
     add-first
     row-for-requires
+    target-row-requires
     best-row-requires
     enum-told
     enum-known-row

@@ -12,10 +12,14 @@ use Rattle.solver_c.proofs.work_in_calls.Tie as tie
 
 -- the kind after the first match
 kind-is : (m : tie.At-match-came) → kindAt (m .before .before .before .before .args .kind) ≡ some (m .match .kind)
-kind-is m = ⊎-elim (λ w. simp (w .0 .keys1, w .1)) (⊎-elim (λ w. simp (w .0 .keys2, w .1)) (λ w. simp (w .0 .keys3, w .1))) (m .match .came)
+kind-is m =
+    ⊎-elim (λ w. simp (w .0 .keys1, w .1))
+    (⊎-elim (λ w. simp (w .0 .keys2, w .1)) (⊎-elim (λ w. simp (w .0 .keys3, w .1)) (λ w. simp (w .0 .keys4, w .1)))) (m .match .came)
 
 returns : tie.Need-returns
-returns c = no-kind (simp (ne-eqb _ 0 (c .match .rest .0 .0 .1), ne-eqb _ 1 (c .match .rest .0 .1), ne-eqb _ 2 (c .match .rest .1))) _ _
+returns c =
+    let r = c .match .rest in
+    no-kind (simp (ne-eqb _ 0 (r .0 .0 .0 .1), ne-eqb _ 1 (r .0 .0 .1), ne-eqb _ 2 (r .0 .1), ne-eqb _ 3 (r .1))) _ _
 
 conway-requires : tie.Need-conway-requires
 conway-requires c κs = search needs

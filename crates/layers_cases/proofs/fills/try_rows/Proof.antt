@@ -8,10 +8,10 @@ use Rattle.layers_cases.proofs.fills.try_rows.Statement.{statement}
 use Rattle.layers_cases.proofs.fills.try_rows.Tie as tie
 
 abbrev Inv-loop : tie.InvT-loop
-Inv-loop name calls table₀ t₀ k₀ table t k = (k ≤ calls) × (length table ≡ length table₀)
+Inv-loop name halves target calls table₀ t₀ k₀ table t k = (k ≤ calls) × (length table ≡ length table₀)
 
 abbrev μ-loop : tie.MeasureT-loop
-μ-loop name calls table₀ t₀ k₀ table t k = calls - k
+μ-loop name halves target calls table₀ t₀ k₀ table t k = calls - k
 
 nothing-requires : tie.Need-nothing-requires Inv-loop μ-loop
 nothing-requires c κs = search needs
@@ -19,11 +19,8 @@ nothing-requires c κs = search needs
 loop-holds : tie.Need-loop-holds Inv-loop μ-loop
 loop-holds c = search needs
 
-add-halves : tie.Need-add-halves Inv-loop μ-loop
-add-halves c = search needs
-
-halves-requires : tie.Need-halves-requires Inv-loop μ-loop
-halves-requires c κs = search needs
+searched-requires : tie.Need-searched-requires Inv-loop μ-loop
+searched-requires c κs = search needs
 
 try-row-requires : tie.Need-try-row-requires Inv-loop μ-loop
 try-row-requires c κs = search needs
@@ -54,8 +51,7 @@ try-rows-spec =
     μ-loop
     nothing-requires
     loop-holds
-    add-halves
-    halves-requires
+    searched-requires
     try-row-requires
     add-k
     loop-less

@@ -16,7 +16,7 @@ use Rattle.board.proofs.Search.{all-none, all-more}
 use Rattle.rule.specs.Rule.{entryOf}
 use Rattle.life.specs.Rows.{becomes, stepsTo}
 use Rattle.board.proofs.Widths.{width-le}
-use Rattle.score_table.specs.Rows.{rowWorth, rowKept, digitsOf, rowFor}
+use Rattle.score_table.specs.Rows.{rowWorth, rowKept, marksOf, digitsOf, rowFor}
 use Rattle.score_table.specs.ScoreTable.{readsFrom}
 use Rattle.score_table.specs.Inner.{columnOf, passes, skipTo}
 use Rattle.score_table.proofs.Columns.{becomes-same, column-lt, passes-is}
@@ -142,11 +142,11 @@ agreed c =
 kept : (c : tie.After-row-kept Inv-loop μ-loop Inv-rows μ-rows) →
     let t = c .before .before .before in
     let g = start t .args in
-    c .row-kept .result ≡ rowKept (g .w) (g .givens .now) (g .at) (rowFor (g .want) (g .w) (tried t))
+    c .row-kept .result ≡ rowKept (g .w) (marksOf (g .want .predecessor) (g .givens .now)) (g .at) (rowFor (g .want) (g .w) (tried t))
 kept c =
     let t = c .before .before .before in
     let g = start t .args in
-    c .row-kept .ensures ∙ ap (rowKept (g .w) (g .givens .now) (g .at)) (t .row-for3 .ensures .0)
+    c .row-kept .ensures ∙ ap (rowKept (g .w) (marksOf (g .want .predecessor) (g .givens .now)) (g .at)) (t .row-for3 .ensures .0)
 
 -- the sum of the turn is what the row offers
 sum : (c : tie.After-row-worth Inv-loop μ-loop Inv-rows μ-rows) →
@@ -159,7 +159,7 @@ sum c =
     let k = c .before .before .before .before .before in
     offer-sum (want-of t) _ _ _ _ _ _ _ _ _ (agreed (k .before)) (sym (kept k) ∙ not-false _ (c .before .before .before .before .if3 .left)) (c .before .if4 .left)
     ∙ ap (λ (x : ℕ). some (x + getD (g .table .now) (g .first + tried t) 0))
-    (sym (c .row-worth .ensures .0 ∙ ap (rowWorth (g .w) (g .givens .now) (g .at)) (t .row-for3 .ensures .0)))
+    (sym (c .row-worth .ensures .0 ∙ ap (rowWorth (g .w) (marksOf (g .want .predecessor) (g .givens .now)) (g .at)) (t .row-for3 .ensures .0)))
 
 row-digits-requires : tie.Need-row-digits-requires Inv-loop μ-loop Inv-rows μ-rows
 row-digits-requires c κs = search needs
@@ -265,10 +265,10 @@ rows-again-2 c =
     pass (c .before .before .before .before) (offer-barred (want-of (c .before .before .before .before)) _ _ _ _ _ _ _ _ _ (sym (kept (c .before)) ∙ not-true _ (c .if3 .taken)))
 
 add-e : tie.Need-add-e Inv-loop μ-loop Inv-rows μ-rows
-add-e c = omega (arith, room (c .before .before .before .before))
+add-e c = let t = c .before .before .before .before in omega (arith, room t, start t .good)
 
 mul-e : tie.Need-mul-e Inv-loop μ-loop Inv-rows μ-rows
-mul-e c = omega (arith, room (c .before .before .before .before))
+mul-e c = let t = c .before .before .before .before in omega (arith, room t, start t .good)
 
 shared-slice-read-e : tie.Need-shared-slice-read-e Inv-loop μ-loop Inv-rows μ-rows
 shared-slice-read-e c = room (c .before .before .before .before .before)
@@ -287,8 +287,8 @@ rows-again-3 c = pass (c .before .before .before .before .before .before .before
 row-worth-requires : tie.Need-row-worth-requires Inv-loop μ-loop Inv-rows μ-rows
 row-worth-requires c κs = let t = c .before .before .before .before .before .before .before in (wide t, start t .pre .4)
 
-add-consider : tie.Need-add-consider Inv-loop μ-loop Inv-rows μ-rows
-add-consider c =
+add-sum : tie.Need-add-sum Inv-loop μ-loop Inv-rows μ-rows
+add-sum c =
     let d = c .before .before .before in
     let t = d .before .before .before .before .before in
     omega (arith, d .shared-slice-known3 .given (start t .args .first + tried t), wide t, c .row-worth .ensures .1)
@@ -344,7 +344,7 @@ best-row-spec =
     rows-less-3
     rows-again-3
     row-worth-requires
-    add-consider
+    add-sum
     consider-requires
     rows-less-4
     rows-again-4

@@ -1,8 +1,8 @@
--- `score_table::filling::entry_at` meets its contract: the last layer by the agreement of the last rows, a layer above by its best row.
+-- `score_table::filling::entry_at` meets its contract: the last layer by what the last rows step to, a layer above by its best row.
 -- Assumes nothing.
 use mathlib.Core.Path.{_≡_, sym, _∙_, ap}
 use Prim.Native.Nat.{_+_, _*_, _-_, _/_, _%_, _^_, _≤_, _<_}
-use native.Mathlib.Nat.{mul-le-mul}
+use native.Mathlib.Nat.{mul-le-mul, le-refl}
 use native.Mathlib.Omega.{arith}
 use borrow.Author.Needs.{needs}
 use borrow.Author.Tests.{not-true, not-false}
@@ -50,33 +50,49 @@ div-a c = rw (two c) (pow-pos _)
 rem-b : tie.Need-rem-b
 rem-b c = rw (two c) (pow-pos _)
 
+sub-r : tie.Need-sub-r
+sub-r c = search needs
+
 row-for-requires : tie.Need-row-for-requires
 row-for-requires c κs = (c .before .before .before .before .pre .0 .memory .width, b-lt c)
 
+-- the row above the layer is one of the grid
+up-to : (d : tie.After-row-codes) → let g = d .before .before .before .before .args in g .h - g .k ≤ maxHeight
+up-to d = omega (arith, d .before .before .before .before .pre .0 .memory .low)
+
+target-row-requires : tie.Need-target-row-requires
+target-row-requires c κs =
+    let s = c .before .before .before .before .before in
+    let l : s .args .h - s .args .k ≤ s .args .h = omega arith in
+    (wide (c .before), c .row-for .ensures .1, up-to (c .before), omega (arith, mul-le-mul (le-refl (s .args .w)) l, s .pre .0 .memory .marks))
+
 row-for-requires-2 : tie.Need-row-for-requires-2
-row-for-requires-2 c κs = let d = c .before .before in (d .before .before .before .before .pre .0 .memory .width, a-lt d)
+row-for-requires-2 c κs = let d = c .before .before .before in (d .before .before .before .before .pre .0 .memory .width, a-lt d)
 
 steps-to-requires : tie.Need-steps-to-requires
 steps-to-requires c κs =
     let t = c .before .before in
-    (wide (t .before), c .row-for2 .ensures .1, t .row-for .ensures .1, pow-pos _, t .row-for .ensures .1)
+    let b = t .before in
+    (wide (b .before), c .row-for2 .ensures .1, b .row-for .ensures .1, pow-pos _, t .target-row .ensures .1)
 
 returns : tie.Need-returns
 returns c =
     let a = c .before .before in
     let t = a .before .before in
-    entry-apart (t .before .before .before .before .before .args .want) _ _ _ (two (t .before)) _ _ _ _ _ _ _ (t .row-for .ensures .0) (a .before .if1 .taken) _ (a .row-for2 .ensures .0)
+    let b = t .before in
+    entry-apart (b .before .before .before .before .before .args .want) _ _ _ (two (b .before)) _ _ _ _ _ _ _ _ (b .row-for .ensures .0) (t .target-row .ensures .0) (a .before .if1 .taken) _ (a .row-for2 .ensures .0)
     (sym (c .before .steps-to .ensures) ∙ not-true _ (c .if2 .taken))
 
 steps-to-requires-2 : tie.Need-steps-to-requires-2
-steps-to-requires-2 c κs = let t = c .before .before .before .before in (wide (t .before), t .row-for .ensures .1, pow-pos _, pow-pos _, pow-pos _)
+steps-to-requires-2 c κs = let b = c .before .before .before .before .before in (wide (b .before), b .row-for .ensures .1, pow-pos _, pow-pos _, pow-pos _)
 
 returns-2 : tie.Need-returns-2
 returns-2 c =
     let s = c .before .before in
     let a = s .before .before in
     let t = a .before .before in
-    entry-open (t .before .before .before .before .before .args .want) _ _ _ (two (t .before)) _ _ _ _ _ _ _ (t .row-for .ensures .0) (a .before .if1 .taken) _ (a .row-for2 .ensures .0)
+    let b = t .before in
+    entry-open (b .before .before .before .before .before .args .want) _ _ _ (two (b .before)) _ _ _ _ _ _ _ _ (b .row-for .ensures .0) (t .target-row .ensures .0) (a .before .if1 .taken) _ (a .row-for2 .ensures .0)
     (sym (s .before .steps-to .ensures) ∙ not-false _ (s .if2 .left)) (sym (c .before .steps-to2 .ensures) ∙ not-true _ (c .if3 .taken))
 
 returns-3 : tie.Need-returns-3
@@ -84,34 +100,28 @@ returns-3 c =
     let s = c .before .before in
     let a = s .before .before in
     let t = a .before .before in
-    entry-ends (t .before .before .before .before .before .args .want) _ _ _ (two (t .before)) _ _ _ _ _ _ _ (t .row-for .ensures .0) (a .before .if1 .taken) _ (a .row-for2 .ensures .0)
+    let b = t .before in
+    entry-ends (b .before .before .before .before .before .args .want) _ _ _ (two (b .before)) _ _ _ _ _ _ _ _ (b .row-for .ensures .0) (t .target-row .ensures .0) (a .before .if1 .taken) _ (a .row-for2 .ensures .0)
     (sym (s .before .steps-to .ensures) ∙ not-false _ (s .if2 .left)) (sym (c .before .steps-to2 .ensures) ∙ not-false _ (c .if3 .left))
 
-sub-r : tie.Need-sub-r
-sub-r c = search needs
-
 mul-best-row : tie.Need-mul-best-row
-mul-best-row c =
-    let d = c .before .before in
-    let s = d .before .before .before .before in
-    let l : s .args .h - s .args .k ≤ maxHeight = omega (arith, s .pre .0 .memory .low) in
-    omega (arith, mul-le-mul l (wide d))
+mul-best-row c = let d = c .before .before .before in omega (arith, mul-le-mul (up-to d) (wide d))
 
 mul-best-row-2 : tie.Need-mul-best-row-2
-mul-best-row-2 c = omega (arith, first-room (c .before .before) (c .if1 .left))
+mul-best-row-2 c = omega (arith, first-room (c .before .before .before) (c .if1 .left))
 
 add-best-row : tie.Need-add-best-row
-add-best-row c = omega (arith, first-room (c .before .before) (c .if1 .left))
+add-best-row c = omega (arith, first-room (c .before .before .before) (c .if1 .left))
 
 best-row-requires : tie.Need-best-row-requires
 best-row-requires c κs =
-    let d = c .before .before in
+    let d = c .before .before .before in
     let s = d .before .before .before .before in
     let l : s .args .h - s .args .k < s .args .h = omega (arith, s .pre .0 .after, c .if1 .left) in (
       s .pre .0 .memory .width,
       a-lt d,
       b-lt d,
-      c .before .row-for .ensures .1,
+      c .before .target-row .ensures .1,
       omega (arith, row-room (s .args .w) _ _ l, s .pre .0 .memory .marks),
       omega (arith, first-room d (c .if1 .left)),
     )
@@ -125,15 +135,16 @@ enum-known-e c = search needs
 cast-result : tie.Need-cast-result
 cast-result c =
     let b = c .before .before .before in
-    omega (arith, b .before .before .before .before .before .before .before .pre .1, b .best-row .ensures .number-le _ _ (c .before .e .given .1))
+    omega (arith, b .before .before .before .before .before .before .before .before .pre .1, b .best-row .ensures .number-le _ _ (c .before .e .given .1))
 
 -- the best row's sum is the entry
-best : (b : tie.After-best-row) → let g = b .before .before .before .before .before .before .before .args in
-    worthOf absent (choiceOf (b .best-row .result))
+best : (o : tie.After-best-row) → let g = o .before .before .before .before .before .before .before .before .args in
+    worthOf absent (choiceOf (o .best-row .result))
     ≡ entryOver (g .want) (entryOf (g .next .now)) (g .w) (g .h) (g .k) (g .source) (g .j) (g .givens .now) (g .table .now)
-best b =
-    let t = b .before .before in
-    entry-best _ _ _ _ (two (t .before)) _ _ _ _ _ _ _ (t .row-for .ensures .0) (b .before .if1 .left) _ (b .best-row .ensures)
+best o =
+    let t = o .before .before in
+    let b = t .before in
+    entry-best _ _ _ _ (two (b .before)) _ _ _ _ _ _ _ _ (b .row-for .ensures .0) (t .target-row .ensures .0) (o .before .if1 .left) _ (o .best-row .ensures)
 
 returns-4 : tie.Need-returns-4
 returns-4 c = ap (λ (o : Best). worthOf absent (choiceOf o)) (sym (c .enum-told .given .1)) ∙ best (c .before .before)
@@ -149,14 +160,15 @@ entry-at-spec =
     row-codes-requires
     div-a
     rem-b
+    sub-r
     row-for-requires
+    target-row-requires
     row-for-requires-2
     steps-to-requires
     returns
     steps-to-requires-2
     returns-2
     returns-3
-    sub-r
     mul-best-row
     mul-best-row-2
     add-best-row

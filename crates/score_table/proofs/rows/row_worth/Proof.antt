@@ -7,28 +7,28 @@ use lib.ListN.{getD}
 use Rattle.board.specs.Sums.{total}
 use Rattle.board.proofs.Sums.{total-none, total-more}
 use Rattle.life.specs.Rows.{digitIn}
-use Rattle.score_table.specs.Rows.{cellWorth, rowWorth}
+use Rattle.score_table.specs.Rows.{cellWorth, rowWorth, marksOf}
 use borrow.Author.Needs.{needs}
 use Rattle.score_table.proofs.rows.row_worth.Statement.{statement}
 use Rattle.score_table.proofs.rows.row_worth.Tie as tie
 
 abbrev Inv-loop : tie.InvT-loop
-Inv-loop w givens at row n₀ k₀ n k = (k ≤ w) × (n ≡ total (λ i. cellWorth (getD givens (at + i) 0) (digitIn w row (i + 1))) k) × (n ≤ k)
+Inv-loop target w givens at row n₀ k₀ n k = (k ≤ w) × (n ≡ total (λ i. cellWorth (getD (marksOf target givens) (at + i) 0) (digitIn w row (i + 1))) k) × (n ≤ k)
 
 abbrev μ-loop : tie.MeasureT-loop
-μ-loop w givens at row n₀ k₀ n k = w - k
+μ-loop target w givens at row n₀ k₀ n k = w - k
 
 loop-holds : tie.Need-loop-holds Inv-loop μ-loop
 loop-holds c = (search needs, sym (total-none _), search needs)
 
+add-mark-at : tie.Need-add-mark-at Inv-loop μ-loop
+add-mark-at c = search needs
+
+mark-at-requires : tie.Need-mark-at-requires Inv-loop μ-loop
+mark-at-requires c κs = search needs
+
 add-cell-worth : tie.Need-add-cell-worth Inv-loop μ-loop
 add-cell-worth c = search needs
-
-shared-slice-read-cell-worth : tie.Need-shared-slice-read-cell-worth Inv-loop μ-loop
-shared-slice-read-cell-worth c = search needs
-
-add-cell-worth-2 : tie.Need-add-cell-worth-2 Inv-loop μ-loop
-add-cell-worth-2 c = search needs
 
 sub-cell-worth : tie.Need-sub-cell-worth Inv-loop μ-loop
 sub-cell-worth c = search needs
@@ -49,7 +49,7 @@ loop-less : tie.Need-loop-less Inv-loop μ-loop
 loop-less c = search needs
 
 loop-again : tie.Need-loop-again Inv-loop μ-loop
-loop-again c = (search needs, rw (total-more, c .before .before .before .loop .inv .1, c .cell-worth .ensures .0), search needs)
+loop-again c = (search needs, rw (total-more, c .before .before .before .loop .inv .1, c .cell-worth .ensures .0, c .before .mark-at .ensures), search needs)
 
 returns : tie.Need-returns Inv-loop μ-loop
 unfolding rowWorth
@@ -62,9 +62,9 @@ row-worth-spec =
     Inv-loop
     μ-loop
     loop-holds
+    add-mark-at
+    mark-at-requires
     add-cell-worth
-    shared-slice-read-cell-worth
-    add-cell-worth-2
     sub-cell-worth
     shr-cell-worth
     cell-worth-requires

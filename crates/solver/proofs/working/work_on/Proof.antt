@@ -7,7 +7,7 @@ use Prim.Native.Nat.{_+_, _^_, _≤_, _<_}
 use lib.ListN.{length}
 use native.Mathlib.Omega.{arith}
 use Rattle.rule.specs.Rule.{Holds, nextUnder}
-use Rattle.job.specs.Jobs.{halvesOf, kindDigits, taskOf}
+use Rattle.job.specs.Jobs.{kindDigits, taskOf}
 use Rattle.elimination.specs.Task.{fill}
 use Rattle.job.proofs.Next.{Due, due-at}
 use Rattle.service.specs.Service.{worksOn}
@@ -71,11 +71,8 @@ entries-now-requires c κs =
     let D = fills k in
     rw (c .row-digits .ensures) (lent-entry (k .before .before .before .before .before .loop .inv .3) (D .running) (D .plans))
 
-halves-requires : tie.Need-halves-requires Inv-loop μ-loop
-halves-requires c κs = search needs
-
-most-live-requires : tie.Need-most-live-requires Inv-loop μ-loop
-most-live-requires c κs = search needs
+want-by-requires : tie.Need-want-by-requires Inv-loop μ-loop
+want-by-requires c κs = search needs
 
 fill-requires : tie.Need-fill-requires Inv-loop μ-loop
 fill-requires c κs = search needs
@@ -84,21 +81,21 @@ after-entries-requires : tie.Need-after-entries-requires Inv-loop μ-loop
 after-entries-requires c κs = search needs
 
 sub-left : tie.Need-sub-left Inv-loop μ-loop
-sub-left c = counted (c .before .before .before .before .before .before .before .before) .1
+sub-left c = counted (c .before .before .before .before .before .before .before) .1
 
 loop-less : tie.Need-loop-less Inv-loop μ-loop
-loop-less c = let N = counted (c .before .before .before .before .before .before .before .before) in omega (arith, N .1, N .2)
+loop-less c = let N = counted (c .before .before .before .before .before .before .before) in omega (arith, N .1, N .2)
 
 loop-again : tie.Need-loop-again Inv-loop μ-loop
 loop-again c =
     let f = c .before .before .before in
-    let n = f .before .before .before .before .before in
+    let n = f .before .before .before .before in
     let l = n .before .before .before .before .before .before .before .loop in
     let D = fills (n .before .before) in
     let N = counted n in
     let R = lent-read (l .inv .3) (D .running) (D .plans) _ (N .0) in
     let O = onward-filled _ _ _ _ (l .inv .3) (D .running) _ _ _ _ (D .plans) _ (N .0) _ (c .after-entries .ensures) _
-    (rw (f .before .before .before .most-live .ensures, f .before .before .before .before .halves .ensures) at (f .fill .ensures) ∙ filled _ _ (l .inv .4) (halvesOf (l .job .kind)) _ _ _ _ _ _ _ _ _ (R .0) (R .1)) _ (N .1) in (
+    (rw (f .before .before .before .want-by .ensures) at (f .fill .ensures) ∙ filled _ _ (l .inv .4) (l .job .kind) _ _ _ _ _ _ _ _ _ (R .0) (R .1)) _ (N .1) in (
       O .works ∙ l .inv .0,
       f .fill .kept .1 .1 .1 .1 .1 .1 .1 .1 .1 .1 .0 ∙ l .inv .1,
       l .inv .2,
@@ -185,8 +182,7 @@ work-on-spec =
     enum-known-after
     row-digits-requires
     entries-now-requires
-    halves-requires
-    most-live-requires
+    want-by-requires
     fill-requires
     after-entries-requires
     sub-left

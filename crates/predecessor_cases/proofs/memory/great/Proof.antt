@@ -1,0 +1,71 @@
+-- `predecessor_cases::memory::great` is safe and ends: the place rises to the number of entries.
+-- Assumes nothing.
+use Prim.Native.Nat.{_-_, _≤_}
+use borrow.Author.Needs.{needs}
+use Rattle.predecessor_cases.proofs.memory.great.Statement.{statement}
+use Rattle.predecessor_cases.proofs.memory.great.Tie as tie
+
+abbrev Inv-loop : tie.InvT-loop
+Inv-loop a b n₀ k₀ n k = k ≤ 1040
+
+abbrev μ-loop : tie.MeasureT-loop
+μ-loop a b n₀ k₀ n k = 1040 - k
+
+loop-holds : tie.Need-loop-holds Inv-loop μ-loop
+loop-holds c = search needs
+
+mul-if1 : tie.Need-mul-if1 Inv-loop μ-loop
+mul-if1 c = search needs
+
+element-copy-out-if1 : tie.Need-element-copy-out-if1 Inv-loop μ-loop
+element-copy-out-if1 c = search needs
+
+mul-if1-2 : tie.Need-mul-if1-2 Inv-loop μ-loop
+mul-if1-2 c = search needs
+
+element-copy-out-if1-2 : tie.Need-element-copy-out-if1-2 Inv-loop μ-loop
+element-copy-out-if1-2 c = search needs
+
+mul-is-great : tie.Need-mul-is-great Inv-loop μ-loop
+mul-is-great c = search needs
+
+element-copy-out-is-great : tie.Need-element-copy-out-is-great Inv-loop μ-loop
+element-copy-out-is-great c = search needs
+
+is-great-requires : tie.Need-is-great-requires Inv-loop μ-loop
+is-great-requires c κs = search needs
+
+wrapping-add-usize-requires : tie.Need-wrapping-add-usize-requires Inv-loop μ-loop
+wrapping-add-usize-requires c κs = search needs
+
+add-k : tie.Need-add-k Inv-loop μ-loop
+add-k c = search needs
+
+loop-less : tie.Need-loop-less Inv-loop μ-loop
+loop-less c = search needs
+
+loop-again : tie.Need-loop-again Inv-loop μ-loop
+loop-again c = search needs
+
+returns : tie.Need-returns Inv-loop μ-loop
+returns c = search needs
+
+pub great-spec : {M : Type 1} → statement M
+great-spec =
+    tie.close
+    (tie.spec
+    Inv-loop
+    μ-loop
+    loop-holds
+    mul-if1
+    element-copy-out-if1
+    mul-if1-2
+    element-copy-out-if1-2
+    mul-is-great
+    element-copy-out-is-great
+    is-great-requires
+    wrapping-add-usize-requires
+    add-k
+    loop-less
+    loop-again
+    returns)
