@@ -1,18 +1,17 @@
 -- The board of the rows that row elimination chooses is the wanted board, wherever they are written.
 -- Assumes nothing.
 use mathlib.Core.Path.{_≡_, refl, sym, _∙_, ap, ap₂, subst}
-use mathlib.Core.Bool.{Bool, false}
+use mathlib.Core.Bool.{Bool}
 use mathlib.Core.List.{List, [], _∷_}
-use mathlib.Core.Logic.{inl, inr, ⊎-elim}
+use mathlib.Core.Logic.{⊎-elim}
 use Prim.Native.Nat.{ℕ, zero, suc, _+_, _*_, _-_, _^_, _≤_, _<_}
 use native.Mathlib.Nat.{mul-le-mul-right, mul-comm}
 use native.Mathlib.Omega.{arith}
-use borrow.Author.Tests.{ltb-true}
 use lib.ListN.{length, getD, replicate, length-replicate}
 use Rattle.board.specs.Boards.{rowDigits, SizedBy}
 use Rattle.elimination.specs.Kind as Elimination
 use Rattle.elimination.specs.Endings.{Ending, total, BestEnding}
-use Rattle.elimination.specs.Boards.{rowsFrom, Earlier, BoardLaws, BestBoard}
+use Rattle.elimination.specs.Boards.{rowsFrom, BoardLaws, BestBoard}
 use Rattle.elimination.specs.Completion.{writeRows}
 use Rattle.elimination.specs.Rows.{RowWriter}
 use Rattle.elimination.proofs.Numbers.{lt-or-ge}
@@ -23,14 +22,14 @@ use Rattle.rule.specs.Rule.{Allowed}
 use Rattle.rule.specs.declared.Rule.{Rule}
 use Rattle.job.specs.Jobs.{halvesOf, hasTarget}
 use Rattle.job.specs.declared.Kind.{Kind}
-use Rattle.solver.specs.Grid.{SolutionBy, TargetCells, BoardBy, heldRow, countBy, Precedes, OptimalBy}
+use Rattle.solver.specs.Grid.{SolutionBy, TargetCells, BoardBy, heldRow, countBy, OptimalBy}
 use Rattle.solver.specs.Units.{gridRows}
 use Rattle.board_rows.specs.Rows.{rowCell, putRow, readRow}
 use Rattle.board_rows.proofs.Writing.{written-cell, cell-small}
 use Rattle.board_rows.proofs.Theorems.{row-writer}
 use Rattle.solver.specs.Theorems.{allRows}
 use Rattle.solver.proofs.RowLaws.{Place, place}
-use Rattle.solver.proofs.HeldRows.{digits-le, held-none, held-reads, same-held, HeldCells, held-mirrored, solution-board}
+use Rattle.solver.proofs.HeldRows.{digits-le, held-reads, same-held, HeldCells, held-mirrored, solution-board}
 use Rattle.solver.proofs.Counts.{not-worse}
 use Rattle.solver.proofs.Endings.{kind-laws, solution-ends, ends-solution, total-count}
 
@@ -171,15 +170,6 @@ into-same {halves} {w} {h} z {cs} R β size =
     same-held halves (into-board z R β size) (into-board z R (blank w h) (blank-size w h))
     (λ r l. from-at (heldRow halves w h (writtenInto halves w cs β)) (heldRow halves w h (boardOf halves w h cs)) h 0 rows r (omega arith) (omega arith))
 
--- ---- board order
-precedes : (halves : Bool) (w h : ℕ) (board other : List ℕ) → Earlier false h (heldRow halves w h board) (heldRow halves w h other) → Precedes halves w h board other
-precedes halves w h board other E = record { row = suc (E .place); inside = E .inside; equal = equal; smaller = ltb-true _ _ (E .decides) }
-  where
-    -- row 0 too
-    equal : (r : ℕ) → r < suc (E .place) → heldRow halves w h board r ≡ heldRow halves w h other r
-    equal zero l = held-none halves w h board ∙ sym (held-none halves w h other)
-    equal (suc r) l = E .equal r (omega arith)
-
 -- ---- the wanted board
 module _ (kind : Kind) {rule : Rule} (allowed : Allowed rule) {w h : ℕ} (z : SizedBy (halvesOf kind) w h) (g : List ℕ) (T : TargetCells kind w h g) where
   abbrev halves : Bool
@@ -212,9 +202,7 @@ module _ (kind : Kind) {rule : Rule} (allowed : Allowed rule) {w h : ℕ} (z : S
   optimal-of {board} B = record {
     solution = B .solution;
     unbeaten = λ other S. not-worse (hasTarget kind) _ _ (B .unbeaten other S);
-    earliest = λ other S q.
-        ⊎-elim inl (λ (E : Earlier false h (heldRow halves w h board) (heldRow halves w h other)). inr (precedes halves w h board other E))
-        (B .earliest other S (equal-tied (hasTarget kind) q));
+    earliest = λ other S q. B .earliest other S (equal-tied (hasTarget kind) q);
   }
 
   module _ {x : ℕ} {cs : List ℕ} (E : BestEnding (gridRows kind rule w h g) h 0 0 x cs) where

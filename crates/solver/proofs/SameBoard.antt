@@ -1,12 +1,15 @@
 -- An ordinary job and one of two layers come to the same board: there is one wanted board, and each comes to it.
 -- Assumes nothing.
 use mathlib.Core.Path.{_≡_, sym, _∙_, ap}
-use mathlib.Core.Bool.{Bool}
+use mathlib.Core.Bool.{Bool, true, false}
 use mathlib.Core.List.{List}
 use mathlib.Core.Logic.{_⊎_, inl, inr, ⊎-elim}
 use Prim.Native.Nat.{ℕ, _≤_, _<_}
 use native.Mathlib.Omega.{arith}
 use native.Mathlib.Nat.{le-antisymm}
+use borrow.Author.Tests.{ltb-true}
+use Rattle.elimination.specs.Order.{rowBefore}
+use Rattle.elimination.specs.Boards.{Earlier}
 use Rattle.elimination.proofs.Numbers.{lt-or-ge}
 use Rattle.rule.specs.declared.Rule.{Rule}
 use Rattle.service.specs.Demand.{Call, Aim, Served, Outcome}
@@ -22,26 +25,33 @@ use Rattle.solver.specs.Theorems.{Alike, solved, unsolvable, SameBoard}
 use Rattle.solver.proofs.Counts.{no-better-both}
 use Rattle.solver.proofs.Third.{third-demand}
 
+-- a row that comes before another isn't equal to it, nor does the other come before it
+not-before : (greaterFirst : Bool) (c d : ℕ) → rowBefore greaterFirst c d ≡ true → (d ≡ c) ⊎ (rowBefore greaterFirst d c ≡ true) → ⊥
+not-before true c d p (inl e) = omega (arith, ltb-true d c p, e)
+not-before true c d p (inr q) = omega (arith, ltb-true d c p, ltb-true c d q)
+not-before false c d p (inl e) = omega (arith, ltb-true c d p, e)
+not-before false c d p (inr q) = omega (arith, ltb-true c d p, ltb-true d c q)
+
 -- no two boards come before each other
-never-both : {halves : Bool} {w h : ℕ} {board other : List ℕ} → Precedes halves w h board other → Precedes halves w h other board → ⊥
-never-both P Q =
-    ⊎-elim (λ (l : P .row < Q .row). omega (arith, P .smaller, Q .equal (P .row) l))
-    (λ (l : Q .row ≤ P .row).
-    ⊎-elim (λ (m : Q .row < P .row). omega (arith, Q .smaller, P .equal (Q .row) m))
-    (λ (m : P .row ≤ Q .row). same P Q (le-antisymm m l)) (lt-or-ge (Q .row) (P .row)))
-    (lt-or-ge (P .row) (Q .row))
+never-both : {greaterFirst : Bool} {h : ℕ} {row other : ℕ → ℕ} → Earlier greaterFirst h row other → Earlier greaterFirst h other row → ⊥
+never-both {greaterFirst} {h} {row} {other} P Q =
+    ⊎-elim (λ (l : P .place < Q .place). not-before greaterFirst _ _ (P .decides) (inl (Q .equal (P .place) l)))
+    (λ (l : Q .place ≤ P .place).
+    ⊎-elim (λ (m : Q .place < P .place). not-before greaterFirst _ _ (Q .decides) (inl (P .equal (Q .place) m)))
+    (λ (m : P .place ≤ Q .place). same (le-antisymm m l)) (lt-or-ge (Q .place) (P .place)))
+    (lt-or-ge (P .place) (Q .place))
   where
-    same : {halves : Bool} {w h : ℕ} {board other : List ℕ} (P : Precedes halves w h board other) (Q : Precedes halves w h other board) → P .row ≡ Q .row → ⊥
-    same P Q e = let s = rw e at (P .smaller) in omega (arith, s, Q .smaller)
+    same : P .place ≡ Q .place → ⊥
+    same e = not-before greaterFirst _ _ (rw e at (P .decides)) (inr (Q .decides))
 
 -- there is one wanted board
-pub one-best : {halves fewest : Bool} {Sought : List ℕ → Type 0} {count : List ℕ → ℕ} {w h : ℕ} {board other : List ℕ}
-    → BestAmong halves fewest Sought count w h board → BestAmong halves fewest Sought count w h other → other ≡ board
-one-best {halves} {fewest} {Sought} {count} {w} {h} {board} {other} B O =
+pub one-best : {halves fewest greaterFirst : Bool} {Sought : List ℕ → Type 0} {count : List ℕ → ℕ} {w h : ℕ} {board other : List ℕ}
+    → BestAmong halves fewest greaterFirst Sought count w h board → BestAmong halves fewest greaterFirst Sought count w h other → other ≡ board
+one-best {halves} {fewest} {greaterFirst} {Sought} {count} {w} {h} {board} {other} B O =
     let e = no-better-both fewest (count other) (count board) (B .unbeaten other (O .solution)) (O .unbeaten board (B .solution)) in
     go (B .earliest other (O .solution) e) (O .earliest board (B .solution) (sym e))
   where
-    go : (other ≡ board) ⊎ Precedes halves w h board other → (board ≡ other) ⊎ Precedes halves w h other board → other ≡ board
+    go : (other ≡ board) ⊎ Precedes halves greaterFirst w h board other → (board ≡ other) ⊎ Precedes halves greaterFirst w h other board → other ≡ board
     go (inl p) q = p
     go (inr p) (inl q) = sym q
     go (inr p) (inr q) = absurd (never-both p q)

@@ -7,14 +7,14 @@ use mathlib.Core.Logic.{⊎-elim}
 use Prim.Native.Nat.{ℕ, zero, suc, _+_, _*_, _-_, _/_, _^_, _≤_, _<_}
 use native.Mathlib.Nat.{eq-or-lt-of-le, zero-div, div-lt-iff-lt-mul, le-div-iff-mul-le}
 use native.Mathlib.Omega.{arith}
-use borrow.Author.Tests.{eq-eqb, ne-eqb, leb-true}
-use lib.Dec.{eqb}
+use borrow.Author.Tests.{eq-eqb, ne-eqb, leb-true, lt-ltb, le-ltb}
+use lib.Dec.{ltb, eqb}
 use lib.ListN.{length, getD}
 use lib.Pow.{pow-pos}
 use Rattle.board.specs.Boards.{SizedBy}
 use Rattle.board.proofs.Sums.{total-sum}
 use Rattle.rule.specs.declared.Rule.{Rule}
-use Rattle.elimination.specs.Order.{isWorse, isTied}
+use Rattle.elimination.specs.Order.{rowBefore, isWorse, isTied}
 use Rattle.elimination.specs.Candidates.{NoBetterRows}
 use Rattle.elimination.specs.Kind.{entry, rightEntry, rightRows, worthOf}
 use Rattle.elimination.specs.Kind as Elimination
@@ -77,28 +77,37 @@ module _ {w h : ℕ} {board other : List ℕ} (B : BoardBy true w h board) (O : 
   smaller-row : halfOf w h board r < halfOf w h other r → rowOf w h board r < rowOf w h other r
   smaller-row l = quotient-lt (2 ^ (w / 2)) (rowOf w h board r) (rowOf w h other r) (pow-pos (w / 2)) (rw (half-leads B r inside, half-leads O r inside) l)
 
+-- so rows are compared as their left halves are
 module _ {w h : ℕ} {board other : List ℕ} (B : BoardBy true w h board) (O : BoardBy true w h other) (r : ℕ) (inside : r ≤ h) where
-  smaller-half : rowOf w h board r < rowOf w h other r → halfOf w h board r < halfOf w h other r
-  smaller-half l =
-      ⊎-elim (λ (q : halfOf w h board r < halfOf w h other r). q)
-      (λ (q : halfOf w h other r ≤ halfOf w h board r).
-      ⊎-elim (λ (e : halfOf w h other r ≡ halfOf w h board r). absurd (omega (arith, l, rows-of-halves O B r inside e)))
-      (λ (m : halfOf w h other r < halfOf w h board r). absurd (omega (arith, l, smaller-row O B r inside m))) (eq-or-lt-of-le q))
+  same-test : ltb (halfOf w h board r) (halfOf w h other r) ≡ ltb (rowOf w h board r) (rowOf w h other r)
+  same-test =
+      ⊎-elim (λ (l : halfOf w h board r < halfOf w h other r). lt-ltb _ _ l ∙ sym (lt-ltb _ _ (smaller-row B O r inside l)))
+      (λ (l : halfOf w h other r ≤ halfOf w h board r). le-ltb _ _ l ∙ sym (le-ltb _ _ (no-greater l)))
       (lt-or-ge (halfOf w h board r) (halfOf w h other r))
+    where
+      no-greater : halfOf w h other r ≤ halfOf w h board r → rowOf w h other r ≤ rowOf w h board r
+      no-greater l =
+          ⊎-elim (λ (e : halfOf w h other r ≡ halfOf w h board r). omega (arith, rows-of-halves O B r inside e))
+          (λ (m : halfOf w h other r < halfOf w h board r). omega (arith, smaller-row O B r inside m)) (eq-or-lt-of-le l)
+
+same-order : {w h : ℕ} {board other : List ℕ} → BoardBy true w h board → BoardBy true w h other → (r : ℕ) → r ≤ h → (greaterFirst : Bool)
+    → rowBefore greaterFirst (halfOf w h board r) (halfOf w h other r) ≡ rowBefore greaterFirst (rowOf w h board r) (rowOf w h other r)
+same-order B O r inside true = same-test O B r inside
+same-order B O r inside false = same-test B O r inside
 
 pub mirror-order : MirrorOrder
-mirror-order w h board other B O = (
+mirror-order greaterFirst w h board other B O = (
   λ P. record {
-    row = P .row;
+    place = P .place;
     inside = P .inside;
-    equal = λ r l. rows-of-halves B O r (omega (arith, l, P .inside)) (P .equal r l);
-    smaller = smaller-row B O (P .row) (P .inside) (P .smaller);
+    equal = λ r l. rows-of-halves B O (suc r) (omega (arith, l, P .inside)) (P .equal r l);
+    decides = sym (same-order B O (suc (P .place)) (P .inside) greaterFirst) ∙ P .decides;
   },
   λ P. record {
-    row = P .row;
+    place = P .place;
     inside = P .inside;
-    equal = λ r l. halves-of-rows B O r (omega (arith, l, P .inside)) (P .equal r l);
-    smaller = smaller-half B O (P .row) (P .inside) (P .smaller);
+    equal = λ r l. halves-of-rows B O (suc r) (omega (arith, l, P .inside)) (P .equal r l);
+    decides = same-order B O (suc (P .place)) (P .inside) greaterFirst ∙ P .decides;
   },
 )
 

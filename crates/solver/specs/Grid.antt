@@ -9,6 +9,7 @@ use Prim.Native.Nat.{ℕ, _*_, _-_, _/_, _≤_, _<_}
 use lib.ListN.{getD}
 use Rattle.board.specs.Sums.{total}
 use Rattle.board.specs.Boards.{among, SizedBy, Bytes}
+use Rattle.elimination.specs.Boards.{Earlier}
 use Rattle.mirror.specs.Mirror.{Mirrored}
 use Rattle.rule.specs.declared.Rule.{Rule}
 use Rattle.life.specs.Plane.{onPlane, Still, LeadsTo}
@@ -79,12 +80,9 @@ countBy true w h target board = population w h board
 countBy false w h givens board = score w h givens board
 
 -- ---- the board that is wanted
--- board order: the first row whose numbers differ decides, and the smaller comes first
-pub record Precedes (halves : Bool) (w h : ℕ) (board other : List ℕ) : Type 0 where
-  pub row : ℕ
-  pub inside : row ≤ h
-  pub equal : (r : ℕ) → r < row → heldRow halves w h board r ≡ heldRow halves w h other r
-  pub smaller : heldRow halves w h board row < heldRow halves w h other row
+-- board order, by the numbers that rows are held as: of rows 1 to h the first that differ decide, and the smaller comes first or the greater
+abbrev pub Precedes : (halves greaterFirst : Bool) (w h : ℕ) (board other : List ℕ) → Type 0
+Precedes halves greaterFirst w h board other = Earlier greaterFirst h (heldRow halves w h board) (heldRow halves w h other)
 
 -- count x is no better than y, where the fewest are wanted, or the most
 abbrev pub CountsNoBetter : Bool → ℕ → ℕ → Type 0
@@ -92,15 +90,15 @@ CountsNoBetter true x y = y ≤ x
 CountsNoBetter false x y = x ≤ y
 
 -- best among the boards that are sought by a count of cells: it is one of them, none counts better, and any other that counts as many comes later in
--- board order
-pub record BestAmong (halves fewest : Bool) (Sought : List ℕ → Type 0) (count : List ℕ → ℕ) (w h : ℕ) (board : List ℕ) : Type 0 where
+-- board order, the smaller rows first or the greater
+pub record BestAmong (halves fewest greaterFirst : Bool) (Sought : List ℕ → Type 0) (count : List ℕ → ℕ) (w h : ℕ) (board : List ℕ) : Type 0 where
   pub solution : Sought board
   pub unbeaten : (other : List ℕ) → Sought other → CountsNoBetter fewest (count other) (count board)
-  pub earliest : (other : List ℕ) → Sought other → count other ≡ count board → (other ≡ board) ⊎ Precedes halves w h board other
+  pub earliest : (other : List ℕ) → Sought other → count other ≡ count board → (other ≡ board) ⊎ Precedes halves greaterFirst w h board other
 
--- by the kind of job: where there is a target the fewest are wanted
+-- by the kind of job: where there is a target the fewest are wanted; among equals the smaller rows come first
 abbrev pub BestBy : Kind → (List ℕ → ℕ) → Rule → ℕ → ℕ → List ℕ → List ℕ → Type 0
-BestBy kind count rule w h givens board = BestAmong (halvesOf kind) (hasTarget kind) (SolutionBy kind rule w h givens) count w h board
+BestBy kind count rule w h givens board = BestAmong (halvesOf kind) (hasTarget kind) false (SolutionBy kind rule w h givens) count w h board
 
 -- the board that is wanted: best by its score, or by all its live cells where there is a target
 abbrev pub OptimalBy : Kind → Rule → ℕ → ℕ → List ℕ → List ℕ → Type 0

@@ -66,10 +66,11 @@ ChoiceIsOptimal =
     (kind : Kind) (rule : Rule) → Allowed rule → (w h : ℕ) (givens : List ℕ) → TargetCells kind w h givens → SizedBy (halvesOf kind) w h
     → BestOrNone kind rule w h givens
 
--- Req 06: ties go by the left halves' numbers, which is the order by the whole rows among mirror boards
+-- Req 06: ties go by the left halves' numbers, which is the order by the whole rows among mirror boards, the smaller first or the greater
 abbrev pub MirrorOrder : Type 0
 MirrorOrder =
-    (w h : ℕ) (board other : List ℕ) → BoardBy true w h board → BoardBy true w h other → Precedes true w h board other ↔ Precedes false w h board other
+    (greaterFirst : Bool) (w h : ℕ) (board other : List ℕ) → BoardBy true w h board → BoardBy true w h other
+    → Precedes true greaterFirst w h board other ↔ Precedes false greaterFirst w h board other
 
 -- ---- entries
 -- what the last rows of a grid of h rows are worth; with a target, which isn't read as marks, all their live cells
