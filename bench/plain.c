@@ -93,7 +93,7 @@ static unsigned next_row(size_t w, unsigned c, size_t j)
     return ((c >> rest) + 1) << rest;
 }
 
-// The row below a and b with the greatest sum of its worth and its number, the smallest among equals.
+// The row below a and b with the greatest sum of its worth and its number, the greatest among equals.
 static struct choice best_row(size_t w, unsigned a, unsigned b, struct marks m, const uint16_t *numbers)
 {
     unsigned above[COLUMNS];
@@ -111,7 +111,7 @@ static struct choice best_row(size_t w, unsigned a, unsigned b, struct marks m, 
         }
         if (keeps(m, c) && numbers[c] <= GREATEST) {
             unsigned sum = worth(m, c) + numbers[c];
-            if (best.sum == NONE || best.sum < sum)
+            if (best.sum == NONE || best.sum <= sum)
                 best = (struct choice){c, sum};
         }
         c++;

@@ -67,6 +67,7 @@ known = record {
   another-kind = refl;
   mirror-2 = refl;
   mirror-4 = refl;
+  mirror-high = refl;
   mirror-none = refl;
   mirror-20 = refl;
   mirror-3 = refl;

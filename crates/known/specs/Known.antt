@@ -87,8 +87,8 @@ pub record Known : Type 0 where
   -- width 3, height 1, first live: none
   pub m5 : solved 3 1 (2 ∷ 0 ∷ 0 ∷ []) ≡ record { answer = infeasible; units = 65; board = 9 ∷ 9 ∷ 9 ∷ [] }
   pub m5-opens : openRule Kind.Ordinary conwayRule 3 1 (2 ∷ 0 ∷ 0 ∷ []) ≡ gives (jobSays (start Kind.Ordinary conwayRule 3 1))
-  -- width 3, height 2 free: rows 3, 3, 130 units
-  pub m6 : solved 3 2 (0 ∷ 0 ∷ 0 ∷ 0 ∷ 0 ∷ 0 ∷ []) ≡ record { answer = finished 4; units = 130; board = 0 ∷ 1 ∷ 1 ∷ 0 ∷ 1 ∷ 1 ∷ [] }
+  -- width 3, height 2 free: rows 6, 6 (Req 09), 130 units
+  pub m6 : solved 3 2 (0 ∷ 0 ∷ 0 ∷ 0 ∷ 0 ∷ 0 ∷ []) ≡ record { answer = finished 4; units = 130; board = 1 ∷ 1 ∷ 0 ∷ 1 ∷ 1 ∷ 0 ∷ [] }
   -- the 3 by 3 board of rows 3, 5, 6 is still
   pub m7 : judgeRule conwayRule 3 3 (0 ∷ 1 ∷ 1 ∷ 1 ∷ 0 ∷ 1 ∷ 1 ∷ 1 ∷ 0 ∷ []) ≡ still
   -- width 3, height 1, row 7 isn't still; first change at row 0, column 2
@@ -107,13 +107,13 @@ pub record Known : Type 0 where
   pub edge-column : openRule Kind.Ordinary conwayRule 2 3 (0 ∷ 2 ∷ 0 ∷ 2 ∷ 0 ∷ 2 ∷ []) ≡ refuses 14 (3 ∷ [])
   pub round-a-corner : openRule Kind.Ordinary conwayRule 2 2 (2 ∷ 2 ∷ 2 ∷ 0 ∷ []) ≡ gives (jobSays (start Kind.Ordinary conwayRule 2 2))
   pub edge-worked : solved 3 1 (2 ∷ 2 ∷ 2 ∷ []) ≡ record { answer = refuses 14 (1 ∷ []); units = 0; board = 9 ∷ 9 ∷ 9 ∷ [] }
-  -- 3 by 3 free: rows 3, 5, 6
-  pub free3 : solved 3 3 (replicate 9 0) ≡ record { answer = finished 6; units = 195; board = 0 ∷ 1 ∷ 1 ∷ 1 ∷ 0 ∷ 1 ∷ 1 ∷ 1 ∷ 0 ∷ [] }
+  -- 3 by 3 free: rows 6, 5, 3 (Req 09)
+  pub free3 : solved 3 3 (replicate 9 0) ≡ record { answer = finished 6; units = 195; board = 1 ∷ 1 ∷ 0 ∷ 1 ∷ 0 ∷ 1 ∷ 0 ∷ 1 ∷ 1 ∷ [] }
   -- Two layers. Boards and scores of M1, M2, M4 and M6: 1 × 4 + 1, 3 × 16 + 2, 2 × 16 + 1 and 3 × 64 + 2 units. One layer is too short a table for 1 by 1
   pub two-m1 : solvedInTwo 1 1 (0 ∷ []) ≡ record { answer = finished 0; units = 5; board = 0 ∷ [] }
   pub two-m2 : solvedInTwo 2 2 (0 ∷ 0 ∷ 0 ∷ 0 ∷ []) ≡ record { answer = finished 4; units = 50; board = 1 ∷ 1 ∷ 1 ∷ 1 ∷ [] }
   pub two-m4 : solvedInTwo 2 2 (2 ∷ 1 ∷ 0 ∷ 0 ∷ []) ≡ record { answer = infeasible; units = 33; board = 9 ∷ 9 ∷ 9 ∷ 9 ∷ [] }
-  pub two-m6 : solvedInTwo 3 2 (0 ∷ 0 ∷ 0 ∷ 0 ∷ 0 ∷ 0 ∷ []) ≡ record { answer = finished 4; units = 194; board = 0 ∷ 1 ∷ 1 ∷ 0 ∷ 1 ∷ 1 ∷ [] }
+  pub two-m6 : solvedInTwo 3 2 (0 ∷ 0 ∷ 0 ∷ 0 ∷ 0 ∷ 0 ∷ []) ≡ record { answer = finished 4; units = 194; board = 1 ∷ 1 ∷ 0 ∷ 1 ∷ 1 ∷ 0 ∷ [] }
   pub one-layer : workedIn 7 Kind.TwoLayers 1 1 (0 ∷ []) ≡ record { answer = refuses 6 []; units = 0; board = 9 ∷ [] }
   -- a paused job's tenth number is its kind, and it is resumed as that kind only
   pub tenth : (jobSays (start Kind.Ordinary conwayRule 2 3) ≡ 2 ∷ 3 ∷ 0 ∷ 0 ∷ 0 ∷ 0 ∷ 0 ∷ 8 ∷ 12 ∷ 0 ∷ [])
@@ -126,9 +126,10 @@ pub record Known : Type 0 where
   pub one-row-above : resumeRule Kind.TwoLayers (numbered 2 40 3 3 2 1) ≡ refuses 7 []
   pub another-kind : resumeRule Kind.Ordinary (numbersOf (start Kind.TwoLayers conwayRule 2 3)) ≡ refuses 7 []
   -- Mirror boards. 2 by 2 free: score 4, 2 × (4 + 1) units. 4 by 2 free: the block in the two middle columns, which are neighbours, 2 × (16 + 1) units.
-  -- Width 2, height 1, both live: none, 4 + 1 units
+  -- Width 2, height 3 free: the block in rows 1 and 2, and not in rows 2 and 3. Width 2, height 1, both live: none, 4 + 1 units
   pub mirror-2 : solvedMirror 2 2 (0 ∷ 0 ∷ 0 ∷ 0 ∷ []) ≡ record { answer = finished 4; units = 10; board = 1 ∷ 1 ∷ 1 ∷ 1 ∷ [] }
   pub mirror-4 : solvedMirror 4 2 (replicate 8 0) ≡ record { answer = finished 4; units = 34; board = 0 ∷ 1 ∷ 1 ∷ 0 ∷ 0 ∷ 1 ∷ 1 ∷ 0 ∷ [] }
+  pub mirror-high : solvedMirror 2 3 (replicate 6 0) ≡ record { answer = finished 4; units = 15; board = 1 ∷ 1 ∷ 1 ∷ 1 ∷ 0 ∷ 0 ∷ [] }
   pub mirror-none : solvedMirror 2 1 (2 ∷ 2 ∷ []) ≡ record { answer = infeasible; units = 5; board = 9 ∷ 9 ∷ [] }
   -- width 20 opens, 3 and 22 don't
   pub mirror-20 : openRule Kind.Mirror conwayRule 20 1 (replicate 20 0) ≡ gives (jobSays (start Kind.Mirror conwayRule 20 1))
@@ -148,7 +149,7 @@ pub record Known : Type 0 where
   pub live-target : LiveTarget
   pub target-dead : solvedTarget 2 2 (0 ∷ 0 ∷ 0 ∷ 0 ∷ []) ≡ record { answer = finished 0; units = 34; board = 0 ∷ 0 ∷ 0 ∷ 0 ∷ [] }
   pub target-one : solvedTarget 1 1 (1 ∷ []) ≡ record { answer = infeasible; units = 5; board = 9 ∷ [] }
-  -- the block: rows 1, 3, the first of the four boards with 3 live cells that step to it, 2 × (16 + 1) units; the upright blinker: the lying one; rows
+  -- the block: rows 1, 3, the smallest of the four boards with 3 live cells that step to it, 2 × (16 + 1) units; the upright blinker: the lying one; rows
   -- 0, 1, 3, which no turn keeps: rows 2, 1, 3, the only board that steps to them
   pub target-block : solvedTarget 2 2 (1 ∷ 1 ∷ 1 ∷ 1 ∷ []) ≡ record { answer = finished 3; units = 34; board = 0 ∷ 1 ∷ 1 ∷ 1 ∷ [] }
   pub target-blinker : solvedTarget 3 3 (0 ∷ 1 ∷ 0 ∷ 0 ∷ 1 ∷ 0 ∷ 0 ∷ 1 ∷ 0 ∷ []) ≡ record { answer = finished 3; units = 195; board = 0 ∷ 0 ∷ 0 ∷ 1 ∷ 1 ∷ 1 ∷ 0 ∷ 0 ∷ 0 ∷ [] }

@@ -20,6 +20,8 @@ use std::num;
 struct Counts {
     grids: usize,
     boards: usize,
+    // With several best boards.
+    ties: usize,
     // With an edge three.
     edges: usize,
     // Differences of the answers to those.
@@ -44,6 +46,7 @@ fn nothing() -> Counts {
     Counts {
         grids: 0,
         boards: 0,
+        ties: 0,
         edges: 0,
         edges_wrong: 0,
         lopsided: 0,
@@ -74,6 +77,7 @@ pub fn try_all() {
 fn print(name: &[u8], c: Counts) {
     report::line(name, c.grids);
     report::line(b"  with a still mirror board: ", c.boards);
+    report::line(b"  of them with several best: ", c.ties);
     report::line(b"  with an edge three: ", c.edges);
     report::line(
         b"  with none: ",
@@ -273,6 +277,7 @@ fn counted(c: Counts, best: Best, wrong: usize, p: Pieces) -> Counts {
     let mut next = c;
     next.grids = num::wrapping_add_usize(c.grids, 1);
     next.boards = num::wrapping_add_usize(c.boards, if best.found { 1 } else { 0 });
+    next.ties = num::wrapping_add_usize(c.ties, if best.tied { 1 } else { 0 });
     next.jobs = num::wrapping_add_usize(c.jobs, 1);
     next.wrong = num::wrapping_add_usize(c.wrong, wrong);
     next.calls = num::wrapping_add_usize(c.calls, p.calls);

@@ -162,21 +162,28 @@ pub struct Best {
     pub score: usize,
     // Its cells as digits.
     pub board: usize,
+    // Another board is as good, so that the order decides.
+    pub tied: bool,
 }
 
-// The first best still mirror board that keeps the givens: the order is that of the numbers whose digits are the left halves.
+// The first best still mirror board that keeps the givens, the greatest left halves first: that is the order of the numbers whose digits they are, from
+// the greatest down.
 pub fn best_board(rule: Rule, s: Size, givens: &[u8]) -> Best {
     let end = 1 << (s.left % 64);
     let m = masks_of(givens, 0, s.cells);
     let mut best = 0; // one more than the best score, 0 while there is none
     let mut first = 0;
-    for halves in 0..end {
-        let number = mirrored(s, halves);
+    let mut tied = false;
+    for k in 0..end {
+        let number = mirrored(s, end - 1 - k);
         let v = num::wrapping_add_usize(score(m, number), 1);
-        if best < v {
+        if best < v || best == v && !tied {
             if keeps_givens(m, number) && is_still_number(rule, s, number) {
+                tied = best == v;
+                if !tied {
+                    first = number;
+                }
                 best = v;
-                first = number;
             }
         }
     }
@@ -184,6 +191,7 @@ pub fn best_board(rule: Rule, s: Size, givens: &[u8]) -> Best {
         found: best != 0,
         score: num::wrapping_sub_usize(best, 1),
         board: first,
+        tied,
     }
 }
 

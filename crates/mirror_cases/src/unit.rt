@@ -145,12 +145,13 @@ struct Below {
     sum: usize,
 }
 
-// The best row k below a over b.
+// The best row k below a over b, the first of equals from the greatest down.
 fn best_below(rule: Rule, s: Size, a: usize, b: usize, k: usize, m: Masks, table: &[u16]) -> Below {
     let end = sizes::halves(s.w);
     let mut best = 0; // one more than the best sum, 0 while there is none
     let mut row = 0;
-    for c in 0..end {
+    for d in 0..end {
+        let c = end - 1 - d;
         let v = offer(rule, s, a, b, c, k, m, table);
         if best < v {
             best = v;

@@ -22,6 +22,7 @@ pub fn scored() {
     answers::show(b"1 by 1", b".");
     answers::show(b"2 by 2", b"..\n..\n");
     answers::show(b"2 by 2, the first live", b"O\r\n..\r\n");
+    answers::show(b"3 by 2", b"...\n...\n");
     answers::show(b"3 by 3", b"!\n...\n\n...");
     answers::show(b"4 by 5", b"....\n....\n....\n....\n....\n");
 }

@@ -18,9 +18,10 @@ pub enum Solved {
 // The units that a working call is allowed.
 const ALLOWANCE: u32 = 1000;
 
-// Solves a grid of givens under a rule, by a job of a kind: leaves the best still board that keeps them, or the best mirror board, first in board order
-// among the best, in `board`, over a table with room for the kind's layers; or of a target, lent for the givens, the board with the fewest live cells that
-// steps to it. Refusals 1, 2, 13, 3, 4, 14, 15 as opening, with a target 1, 2, 13, 3, 4; then 5, 6 as working.
+// Solves a grid of givens under a rule, by a job of a kind: leaves the best still board that keeps them, or the best mirror board, in `board`, over a
+// table with room for the kind's layers; or of a target, lent for the givens, the board with the fewest live cells that steps to it. Among equals it is
+// the one whose rows are greatest, row 1 first, and of a target the one whose rows are smallest. Refusals 1, 2, 13, 3, 4, 14, 15 as opening, with a
+// target 1, 2, 13, 3, 4; then 5, 6 as working.
 pub fn solve(
     kind: Kind,
     rule: Rule,

@@ -3,7 +3,7 @@
 -- the entries and which of them a unit writes. `next` is the next-state table of the 512 patterns.
 -- Assumes nothing.
 use mathlib.Core.Path.{_≡_}
-use mathlib.Core.Bool.{Bool, false, cond, _&&_}
+use mathlib.Core.Bool.{Bool, cond, not, _&&_}
 use mathlib.Core.List.{List}
 use Prim.Native.Nat.{ℕ, suc, _+_, _*_, _-_, _/_, _%_, _^_, _<_}
 use lib.ListN.{getD}
@@ -20,10 +20,10 @@ use Rattle.score_table.specs.declared.Want.{Want}
 abbrev pub absent : ℕ
 absent = 65535
 
--- what is wanted: the greatest number of free live cells, or with a target the least number of live cells; among equals the smallest row; a number read
--- above 600 counts as none, and above 1,200 where rows are held as their left halves
+-- what is wanted: the greatest number of free live cells, among equals the greatest row (Req 09); or with a target the least number of live cells, among
+-- equals the smallest row (Req 08). A number read above 600 counts as none, and above 1,200 where rows are held as their left halves
 abbrev pub wantOf : Bool → Bool → Want
-wantOf halves target = record { least = target; «greater_first» = false; limit = cond halves 1200 600; halves = halves; predecessor = target }
+wantOf halves target = record { least = target; «greater_first» = not target; limit = cond halves 1200 600; halves = halves; predecessor = target }
 
 -- What is asked: the sum of live cells that is wanted. Row c may stand below a over b where the three step to what b has to become and c keeps the
 -- givens of its row, which start at `givensAt k` with k rows after it; the board may end below a over b where (a, b, 0) do, and (b, 0, 0) step to a dead

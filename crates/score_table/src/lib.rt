@@ -35,15 +35,16 @@ pub enum Picked {
     Row { row: usize, worth: usize },
 }
 
-// What is wanted: the most free live cells, or with a target the fewest live cells, 600 at most, or 1,200 where rows are held as their left halves; among
-// equals the smallest row.
+// What is wanted: the most free live cells, among equals the greatest row; or with a target the fewest live cells, among equals the smallest row. A number
+// read counts up to 600, or up to 1,200 where rows are held as their left halves.
 pub fn want_of(halves: bool, target: bool) -> Want
     ensures { λ r. ⌜ r ≡ wantOf halves target ⌝ }
 {
+    let greater_first = !target;
     let limit = if halves { 1200 } else { 600 };
     Want {
         least: target,
-        greater_first: false,
+        greater_first,
         limit,
         halves,
         predecessor: target,

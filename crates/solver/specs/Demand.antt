@@ -86,9 +86,9 @@ pub record Progress (kind : Kind) (rule : Rule) (w h : ℕ) (givens wanted : Lis
   pub live : liveOf (now .job .stage) ≡ countBy (hasTarget kind) w (chosenRows kind w h (now .job)) givens wanted
 
 -- ---- the claim
--- What the jobs of one kind, rule and grid come to: the best board, of a mirror job the best mirror board, first in board order among the best, and its
--- score, the live cells that were free (`SameBest` of `Theorems`: it is the best by all live cells too). With a target: the board with the fewest live
--- cells among those that step to it, first in board order among these, and how many it has.
+-- What the jobs of one kind, rule and grid come to: the best board, of a mirror job the best mirror board, among the best the one whose rows are greatest,
+-- row 1 first, and its score, the live cells that were free (`SameBest` of `Theorems`: it is the best by all live cells too). With a target: the board
+-- with the fewest live cells among those that step to it, among these the one whose rows are smallest, and how many it has.
 abbrev pub gridKind : Kind → Rule → ℕ → ℕ → List ℕ → JobKind
 gridKind kind rule w h givens = record {
   setup = setupOf kind rule w h givens;

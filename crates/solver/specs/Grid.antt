@@ -1,8 +1,8 @@
--- Document 01, "Grid, row word, givens", Req 06 and Req 08: givens kept, mirror boards, boards that step to a target, the score, board order, and the
--- board that is wanted by a job of a kind.
+-- Document 01, "Grid, row word, givens", Req 06, Req 08 and Req 09: givens kept, mirror boards, boards that step to a target, the score, board order, and
+-- the board that is wanted by a job of a kind.
 -- Assumes nothing.
 use mathlib.Core.Path.{_≡_}
-use mathlib.Core.Bool.{Bool, true, false, cond}
+use mathlib.Core.Bool.{Bool, true, false, cond, not}
 use mathlib.Core.List.{List}
 use mathlib.Core.Logic.{_⊎_}
 use Prim.Native.Nat.{ℕ, _*_, _-_, _/_, _≤_, _<_}
@@ -80,7 +80,7 @@ countBy true w h target board = population w h board
 countBy false w h givens board = score w h givens board
 
 -- ---- the board that is wanted
--- board order, by the numbers that rows are held as: of rows 1 to h the first that differ decide, and the smaller comes first or the greater
+-- board order, by the numbers that rows are held as: of rows 1 to h the first that differ decide, and the smaller comes first; or, by Req 09, the greater
 abbrev pub Precedes : (halves greaterFirst : Bool) (w h : ℕ) (board other : List ℕ) → Type 0
 Precedes halves greaterFirst w h board other = Earlier greaterFirst h (heldRow halves w h board) (heldRow halves w h other)
 
@@ -96,9 +96,10 @@ pub record BestAmong (halves fewest greaterFirst : Bool) (Sought : List ℕ → 
   pub unbeaten : (other : List ℕ) → Sought other → CountsNoBetter fewest (count other) (count board)
   pub earliest : (other : List ℕ) → Sought other → count other ≡ count board → (other ≡ board) ⊎ Precedes halves greaterFirst w h board other
 
--- by the kind of job: where there is a target the fewest are wanted; among equals the smaller rows come first
+-- by the kind of job: the most are wanted, and among equals the greater rows come first (Req 09); where there is a target the fewest, and among equals
+-- the smaller rows (Req 08)
 abbrev pub BestBy : Kind → (List ℕ → ℕ) → Rule → ℕ → ℕ → List ℕ → List ℕ → Type 0
-BestBy kind count rule w h givens board = BestAmong (halvesOf kind) (hasTarget kind) false (SolutionBy kind rule w h givens) count w h board
+BestBy kind count rule w h givens board = BestAmong (halvesOf kind) (hasTarget kind) (not (hasTarget kind)) (SolutionBy kind rule w h givens) count w h board
 
 -- the board that is wanted: best by its score, or by all its live cells where there is a target
 abbrev pub OptimalBy : Kind → Rule → ℕ → ℕ → List ℕ → List ℕ → Type 0

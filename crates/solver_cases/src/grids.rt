@@ -21,6 +21,8 @@ use std::num;
 struct Counts {
     grids: usize,
     boards: usize,
+    // With several best boards.
+    ties: usize,
     // With an edge three.
     edges: usize,
     // Differences of the answers to those.
@@ -55,6 +57,7 @@ fn nothing() -> Counts {
     Counts {
         grids: 0,
         boards: 0,
+        ties: 0,
         edges: 0,
         wrong: 0,
         ordinary: no_runs(),
@@ -92,6 +95,7 @@ pub fn try_rules() {
 fn print(name: &[u8], c: Counts) {
     report::line(name, c.grids);
     report::line(b"  with a still board: ", c.boards);
+    report::line(b"  of them with several best: ", c.ties);
     report::line(b"  with an edge three: ", c.edges);
     report::line(
         b"  with none: ",
@@ -265,6 +269,7 @@ fn counted(c: Counts, best: Best, ordinary: Run, two: Run, apart: usize) -> Coun
     Counts {
         grids: num::wrapping_add_usize(c.grids, 1),
         boards: num::wrapping_add_usize(c.boards, if best.found { 1 } else { 0 }),
+        ties: num::wrapping_add_usize(c.ties, if best.tied { 1 } else { 0 }),
         edges: c.edges,
         wrong: c.wrong,
         ordinary: with_run(c.ordinary, ordinary),

@@ -97,20 +97,27 @@ pub struct Best {
     pub score: usize,
     // Its cells as digits.
     pub board: usize,
+    // Another board is as good, so that the order decides.
+    pub tied: bool,
 }
 
-// The first best still board that keeps the givens: board order is the order of the boards' numbers.
+// The first best still board that keeps the givens, the greatest rows first: that is the order of the boards' numbers, from the greatest down.
 pub fn best_board(rule: Rule, s: Size, givens: &[u8]) -> Best {
     let end = boards(s.cells);
     let m = masks_of(givens, 0, s.cells);
     let mut best = 0; // one more than the best score, 0 while there is none
     let mut first = 0;
-    for number in 0..end {
+    let mut tied = false;
+    for k in 0..end {
+        let number = end - 1 - k;
         let v = num::wrapping_add_usize(score(m, number), 1);
-        if best < v {
+        if best < v || best == v && !tied {
             if keeps_givens(m, number) && is_still(rule, s.w, s.h, number) {
+                tied = best == v;
+                if !tied {
+                    first = number;
+                }
                 best = v;
-                first = number;
             }
         }
     }
@@ -118,6 +125,7 @@ pub fn best_board(rule: Rule, s: Size, givens: &[u8]) -> Best {
         found: best != 0,
         score: num::wrapping_sub_usize(best, 1),
         board: first,
+        tied,
     }
 }
 

@@ -1,4 +1,4 @@
--- `mirror_cases::plain::best_board` is safe and ends: the left halves' number rises to the number of mirror boards.
+-- `mirror_cases::plain::best_board` is safe and ends: the number of boards tried rises to how many there are.
 -- Assumes nothing.
 use Prim.Native.Nat.{_-_, _≤_}
 use borrow.Author.Needs.{needs}
@@ -6,10 +6,10 @@ use Rattle.mirror_cases.proofs.plain.best_board.Statement.{statement}
 use Rattle.mirror_cases.proofs.plain.best_board.Tie as tie
 
 abbrev Inv-loop : tie.InvT-loop
-Inv-loop rule s givens end m best₀ first₀ halves₀ best first halves = halves ≤ end
+Inv-loop rule s givens end m best₀ first₀ tied₀ k₀ best first tied k = k ≤ end
 
 abbrev μ-loop : tie.MeasureT-loop
-μ-loop rule s givens end m best₀ first₀ halves₀ best first halves = end - halves
+μ-loop rule s givens end m best₀ first₀ tied₀ k₀ best first tied k = end - k
 
 shl-end : tie.Need-shl-end Inv-loop μ-loop
 shl-end c = search needs
@@ -19,6 +19,12 @@ masks-of-requires c κs = search needs
 
 loop-holds : tie.Need-loop-holds Inv-loop μ-loop
 loop-holds c = search needs
+
+sub-mirrored : tie.Need-sub-mirrored Inv-loop μ-loop
+sub-mirrored c = search needs
+
+sub-mirrored-2 : tie.Need-sub-mirrored-2 Inv-loop μ-loop
+sub-mirrored-2 c = search needs
 
 mirrored-requires : tie.Need-mirrored-requires Inv-loop μ-loop
 mirrored-requires c κs = search needs
@@ -35,8 +41,8 @@ keeps-givens-requires c κs = search needs
 is-still-number-requires : tie.Need-is-still-number-requires Inv-loop μ-loop
 is-still-number-requires c κs = search needs
 
-add-halves : tie.Need-add-halves Inv-loop μ-loop
-add-halves c = search needs
+add-k : tie.Need-add-k Inv-loop μ-loop
+add-k c = search needs
 
 loop-less : tie.Need-loop-less Inv-loop μ-loop
 loop-less c = search needs
@@ -59,12 +65,14 @@ best-board-spec =
     shl-end
     masks-of-requires
     loop-holds
+    sub-mirrored
+    sub-mirrored-2
     mirrored-requires
     score-requires
     wrapping-add-usize-requires
     keeps-givens-requires
     is-still-number-requires
-    add-halves
+    add-k
     loop-less
     loop-again
     wrapping-sub-usize-requires

@@ -1,4 +1,4 @@
--- `solver_cases::plain::best_board` is safe and ends: the number rises to the number of boards.
+-- `solver_cases::plain::best_board` is safe and ends: the number of boards tried rises to how many there are.
 -- Assumes nothing.
 use Prim.Native.Nat.{_-_, _≤_}
 use borrow.Author.Needs.{needs}
@@ -6,10 +6,10 @@ use Rattle.solver_cases.proofs.plain.best_board.Statement.{statement}
 use Rattle.solver_cases.proofs.plain.best_board.Tie as tie
 
 abbrev Inv-loop : tie.InvT-loop
-Inv-loop rule s givens end m best₀ first₀ number₀ best first number = number ≤ end
+Inv-loop rule s givens end m best₀ first₀ tied₀ k₀ best first tied k = k ≤ end
 
 abbrev μ-loop : tie.MeasureT-loop
-μ-loop rule s givens end m best₀ first₀ number₀ best first number = end - number
+μ-loop rule s givens end m best₀ first₀ tied₀ k₀ best first tied k = end - k
 
 boards-requires : tie.Need-boards-requires Inv-loop μ-loop
 boards-requires c κs = search needs
@@ -19,6 +19,12 @@ masks-of-requires c κs = search needs
 
 loop-holds : tie.Need-loop-holds Inv-loop μ-loop
 loop-holds c = search needs
+
+sub-number : tie.Need-sub-number Inv-loop μ-loop
+sub-number c = search needs
+
+sub-number-2 : tie.Need-sub-number-2 Inv-loop μ-loop
+sub-number-2 c = search needs
 
 score-requires : tie.Need-score-requires Inv-loop μ-loop
 score-requires c κs = search needs
@@ -32,8 +38,8 @@ keeps-givens-requires c κs = search needs
 is-still-requires : tie.Need-is-still-requires Inv-loop μ-loop
 is-still-requires c κs = search needs
 
-add-number : tie.Need-add-number Inv-loop μ-loop
-add-number c = search needs
+add-k : tie.Need-add-k Inv-loop μ-loop
+add-k c = search needs
 
 loop-less : tie.Need-loop-less Inv-loop μ-loop
 loop-less c = search needs
@@ -56,11 +62,13 @@ best-board-spec =
     boards-requires
     masks-of-requires
     loop-holds
+    sub-number
+    sub-number-2
     score-requires
     wrapping-add-usize-requires
     keeps-givens-requires
     is-still-requires
-    add-number
+    add-k
     loop-less
     loop-again
     wrapping-sub-usize-requires
