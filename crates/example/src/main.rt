@@ -2,8 +2,8 @@
 use job::Checkpoint;
 use job::Job;
 use job::JobResult;
-use job::Kind;
 use job::Paused;
+use job_kind::Kind;
 use solver::Status;
 
 fn main() {

@@ -18,10 +18,11 @@ use Rattle.elimination.proofs.Shape.{Rows, Units, runs, ends, fails}
 use Rattle.elimination.proofs.Rounds.{chosen-most}
 use Rattle.rule.specs.Rule.{ruleFits, ruleCheck, gridCheck}
 use Rattle.rule.specs.declared.Rule.{Rule}
-use Rattle.job.specs.Jobs.{halvesOf, shapeOf, checkpointFits, numbersOf, stageFits, jobFits, stageOf, jobOf, jobSays, checkpointSays}
-use Rattle.job.specs.declared.Kind.{Kind}
+use Rattle.job_kind.specs.Kinds.{halvesOf, shapeOf}
+use Rattle.job.specs.Jobs.{checkpointFits, numbersOf, stageFits, jobFits, stageOf, jobOf, jobSays, checkpointSays}
+use Rattle.job_kind.specs.declared.Kind.{Kind}
 use Rattle.job.specs.declared.Checkpoint.{Checkpoint}
-use Rattle.job.proofs.Shapes.{shape-lawful, shape-rounds}
+use Rattle.job_kind.proofs.Shapes.{shape-lawful, shape-rounds}
 use Rattle.job.proofs.Fits.{NumbersFit, numbers-at, heard}
 
 -- ---- the size and the rule

@@ -9,7 +9,7 @@ use borrow.Author.Tests.{not-true, eq-eqb, eqb-true, le-leb, leb-true}
 use lib.Dec.{eqb, leb}
 use lib.ListN.{getD}
 use lib.Pow.{pow-pos}
-use Rattle.board.specs.Answers.{Answer, gives, passed, refuses, refuseUnless}
+use Rattle.board.specs.Answers.{Answer, gives, passed, refuses, refuseUnless, _then_}
 use Rattle.board.specs.Boards.{maxHeight, among, widthFits, isWidth, SizedBy}
 use Rattle.board.proofs.Answers.{refuses-none, then-gives, unless-gives}
 use Rattle.board.proofs.Widths.{width-of, width-fits}
@@ -21,14 +21,16 @@ use Rattle.elimination.proofs.Shape as Shapes
 use Rattle.rule.specs.Rule.{Allowed, ruleFits, gridCheck}
 use Rattle.rule.specs.declared.Rule.{Rule}
 use Rattle.rule.proofs.Rules.{fits-allowed, allowed-fits, grid-allowed, grid-passes}
-use Rattle.job.specs.Jobs.{kindNumber, halvesOf, kindDigits, shapeOf, ruleOf, numbersIn, checkpointFits, numbersOf, checkpointSays, jobSays, stageFits, jobFits, stageOf, start, jobOf, pauseRule, resumeRule, pausedSays, jobResultSays}
+use Rattle.job_kind.specs.Kinds.{kindNumber, halvesOf, kindDigits, shapeOf, readCheck}
+use Rattle.job.specs.Jobs.{ruleOf, numbersIn, checkpointFits, numbersOf, checkpointSays, jobSays, stageFits, jobFits, stageOf, start, jobOf, openRule, pauseRule, resumeRule, pausedSays, jobResultSays}
 use Rattle.job.specs.Calls.{RoundTrip, Pausable}
-use Rattle.job.specs.declared.Kind.{Kind}
+use Rattle.job_kind.specs.declared.Kind.{Kind}
 use Rattle.job.specs.declared.Stage.{Stage}
 use Rattle.job.specs.declared.Job.{Job}
 use Rattle.job.specs.declared.Checkpoint.{Checkpoint}
 use Rattle.job.specs.declared.JobResult.{JobResult}
-use Rattle.job.proofs.Shapes.{number-tells, shape-lawful, shorter, fills-first}
+use Rattle.job_kind.proofs.Shapes.{number-tells, shape-lawful, shorter, fills-first}
+use Rattle.job_kind.proofs.ReadChecks.{read-passed}
 
 -- ---- the ten numbers
 -- a size and a rule that opening as a kind takes
@@ -46,6 +48,15 @@ frame-of kind rule w h e = let p = grid-allowed rule (halvesOf kind) w h e in re
 
 pub frame-passes : {kind : Kind} {rule : Rule} {w h : ℕ} → Frame kind rule w h → gridCheck (halvesOf kind) rule w h ≡ passed
 frame-passes {kind} {rule} z = grid-passes rule (halvesOf kind) (z .size) (z .allowed)
+
+-- what opening takes has a size and a rule, and passes the checks of what is read
+pub opening-shows : (kind : Kind) (rule : Rule) (w h : ℕ) (givens : List ℕ) {values : List ℕ} → openRule kind rule w h givens ≡ gives values
+    → Frame kind rule w h × (readCheck kind rule w h givens ≡ passed)
+unfolding openRule
+opening-shows kind rule w h givens e =
+    let p = then-gives (gridCheck (halvesOf kind) rule w h) (readCheck kind rule w h givens then gives (jobSays (start kind rule w h))) e in
+    let q = then-gives (readCheck kind rule w h givens) (gives (jobSays (start kind rule w h))) (p .1) in
+    (frame-of kind rule w h (p .0 .1), read-passed kind rule w h givens (q .0 .1))
 
 pub record NumbersFit (kind : Kind) (t : Checkpoint) : Type 0 where
   pub of : t .kind ≡ kindNumber kind

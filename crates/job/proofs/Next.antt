@@ -17,14 +17,16 @@ use Rattle.elimination.specs.Task.{Task, row, isFill}
 use Rattle.elimination.specs.Shape.{Shape, Numbers, afterEntry, afterEntries, afterRow, afterNone}
 use Rattle.elimination.specs.Rounds.{roundFill}
 use Rattle.elimination.proofs.Shape.{Units, runs, ends, fails}
-use Rattle.job.specs.Jobs.{halvesOf, kindDigits, boardLength, afterChoice, shapeOf, layerStart, aboveOf, lastOf, liveOf, markOf, numbersOf, numbersIn, jobFits, stageOf, jobOf, runsWithin, taskDue, numbersWith, jobWith, afterTask, afterUnit, fillsNext, afterFills}
+use Rattle.job_kind.specs.Kinds.{halvesOf, kindDigits, boardLength, shapeOf, layerStart}
+use Rattle.job.specs.Jobs.{afterChoice, aboveOf, lastOf, liveOf, markOf, numbersOf, numbersIn, jobFits, stageOf, jobOf, runsWithin, taskDue, numbersWith, jobWith, afterTask, afterUnit, fillsNext, afterFills}
 use Rattle.job.specs.Inner.{RoundIs}
-use Rattle.job.specs.declared.Kind.{Kind}
+use Rattle.job_kind.specs.declared.Kind.{Kind}
 use Rattle.job.specs.declared.shape.Round.{Round}
 use Rattle.job.specs.declared.Stage.{Stage}
 use Rattle.job.specs.declared.Job.{Job}
 use Rattle.job.specs.declared.Chosen.{Chosen}
-use Rattle.job.proofs.Shapes.{length-le, row-early, fills-entry, fills-on, chooses-row, rows-spent}
+use Rattle.job_kind.proofs.Shapes.{length-le, row-early}
+use Rattle.job.proofs.Rounds.{fills-entry, fills-on, chooses-row, rows-spent}
 use Rattle.job.proofs.Fits.{jobAt, numbers-at, fits-numbers, fits-frame, job-back}
 use Rattle.job.proofs.Checkpoints.{chosen-le}
 

@@ -3,12 +3,11 @@
 use mathlib.Core.Path.{_≡_}
 use mathlib.Core.Bool.{true}
 use mathlib.Core.List.{List, []}
-use Prim.Native.Nat.{ℕ, _+_, _≤_, _<_}
+use Prim.Native.Nat.{ℕ}
 use Rattle.board.specs.Answers.{gives, refuses}
-use Rattle.elimination.specs.Shape.{entriesFilled}
 use Rattle.rule.specs.declared.Rule.{Rule}
-use Rattle.job.specs.Jobs.{boardLength, planOf, chosenIn, numbersOf, jobSays, jobFits, jobOf, start, openRule, pauseRule, resumeRule, jobResultSays, pausedSays}
-use Rattle.job.specs.declared.Kind.{Kind}
+use Rattle.job.specs.Jobs.{numbersOf, jobSays, jobFits, jobOf, start, openRule, pauseRule, resumeRule, jobResultSays, pausedSays}
+use Rattle.job_kind.specs.declared.Kind.{Kind}
 use Rattle.job.specs.declared.Job.{Job}
 use Rattle.job.specs.declared.Checkpoint.{Checkpoint}
 use Rattle.job.specs.declared.JobResult.{JobResult}
@@ -40,8 +39,3 @@ pub record Pausable (j : Job) : Type 0 where
   pub pauses : pauseRule j ≡ gives (jobSays j)
   pub resumes : resumeRule (j .kind) (numbersOf j) ≡ gives (jobSays j)
   pub back : jobOf (j .kind) (numbersOf j) ≡ j
-
--- THE ROWS CHOSEN are the choosing units among the units done: of any number of units, up to the length, those that fill no entry
-abbrev pub RowsAreChoosingUnits : Type 0
-RowsAreChoosingUnits =
-    (kind : Kind) (w h u : ℕ) → 0 < h → u ≤ boardLength kind w h → u ≡ entriesFilled (planOf kind w h) u + chosenIn kind w h u

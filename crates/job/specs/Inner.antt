@@ -3,8 +3,8 @@
 use mathlib.Core.Path.{_≡_}
 use Prim.Native.Nat.{ℕ, _+_, _≤_, _<_}
 use Rattle.elimination.specs.Rounds.{InRound}
-use Rattle.job.specs.Jobs.{roundWork, courseOf}
-use Rattle.job.specs.declared.Kind.{Kind}
+use Rattle.job_kind.specs.Kinds.{roundWork, courseOf}
+use Rattle.job_kind.specs.declared.Kind.{Kind}
 use Rattle.job.specs.declared.shape.Round.{Round}
 
 -- the round of unit u of a job, and the entries that are left to fill in it; past the last row there is none

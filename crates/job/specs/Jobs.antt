@@ -2,26 +2,21 @@
 -- resuming, and the job after a unit. `Checkpoint` is the paper's seven numbers, the two of the rule and that of the kind, and the stage `Infeasible` its
 -- none.
 -- Assumes nothing.
-use mathlib.Core.Bool.{Bool, true, false, cond, not, _&&_}
+use mathlib.Core.Bool.{Bool, true, cond, not, _&&_}
 use mathlib.Core.List.{List, [], _∷_}
 use mathlib.Core.Option.{Option, none, some}
-use Prim.Native.Nat.{ℕ, zero, suc, _+_, _*_, _-_, _/_, _^_}
+use Prim.Native.Nat.{ℕ, zero, suc, _+_, _*_}
 use lib.Dec.{eqb, leb, ltb}
-use Rattle.board.specs.Answers.{Answer, gives, passed, refusalSays, _then_, refuseUnless}
-use Rattle.board.specs.Boards.{among, maxHeight, rowDigits, widthFits, isWidth}
-use Rattle.board.specs.Checks.{givensCheck, targetCheck, tableSize}
+use Rattle.board.specs.Answers.{Answer, gives, refusalSays, _then_, refuseUnless}
+use Rattle.board.specs.Boards.{among, maxHeight, widthFits, isWidth}
 use Rattle.board.specs.Search.{allBelow}
-use Rattle.edges.specs.Edges.{edgeCheck}
-use Rattle.mirror.specs.Mirror.{lopsidedCheck}
 use Rattle.elimination.specs.Task.{isFill}
 use Rattle.elimination.specs.Task as Elimination
-use Rattle.elimination.specs.Plan.{Schedule}
-use Rattle.elimination.specs.FillThenChoose as Whole
-use Rattle.elimination.specs.TwoLayers as Two
-use Rattle.elimination.specs.Shape.{Shape, Numbers, numbersFit, chosenFrom, afterEntry, afterEntries, afterRow, afterNone}
+use Rattle.elimination.specs.Shape.{Shape, Numbers, numbersFit, afterEntry, afterEntries, afterRow, afterNone}
 use Rattle.rule.specs.Rule.{ruleFits, gridCheck}
 use Rattle.rule.specs.declared.Rule.{Rule}
-use Rattle.job.specs.declared.Kind.{Kind}
+use Rattle.job_kind.specs.Kinds.{kindNumber, halvesOf, shapeOf, readCheck}
+use Rattle.job_kind.specs.declared.Kind.{Kind}
 use Rattle.job.specs.declared.Stage.{Stage}
 use Rattle.job.specs.declared.Job.{Job}
 use Rattle.job.specs.declared.Checkpoint.{Checkpoint}
@@ -29,87 +24,6 @@ use Rattle.job.specs.declared.JobResult.{JobResult}
 use Rattle.job.specs.declared.Paused.{Paused}
 use Rattle.job.specs.declared.Chosen.{Chosen}
 use Rattle.job.specs.declared.Task as Task
-
--- ---- kinds of job
--- the kind's number: ordinary 0, two layers only 1, mirror boards 2, predecessors of a target 3
-abbrev pub kindNumber : Kind → ℕ
-kindNumber Kind.Ordinary = 0
-kindNumber Kind.TwoLayers = 1
-kindNumber Kind.Mirror = 2
-kindNumber Kind.Predecessor = 3
-
--- a row is held as its left half
-abbrev pub halvesOf : Kind → Bool
-halvesOf Kind.Ordinary = false
-halvesOf Kind.TwoLayers = false
-halvesOf Kind.Mirror = true
-halvesOf Kind.Predecessor = false
-
--- the table holds two layers, which are filled again before each row
-abbrev pub refills : Kind → Bool
-refills Kind.Ordinary = false
-refills Kind.TwoLayers = true
-refills Kind.Mirror = false
-refills Kind.Predecessor = false
-
--- a target is lent in the givens' place: the boards that are one step before it are sought, and the fewest live cells are wanted
-abbrev pub hasTarget : Kind → Bool
-hasTarget Kind.Ordinary = false
-hasTarget Kind.TwoLayers = false
-hasTarget Kind.Mirror = false
-hasTarget Kind.Predecessor = true
-
--- the binary digits of a row's number: w, or w ÷ 2 where a row is held as its left half; they stand for w in every power
-abbrev pub kindDigits : Kind → ℕ → ℕ
-kindDigits kind w = rowDigits (halvesOf kind) w
-
--- the layers of 4^d entries, d the digits of a row's number, that the table has to have room for
-abbrev pub layersOf : Kind → ℕ → ℕ
-layersOf kind h = cond (refills kind) 2 h
-
--- a job's length where a still board that keeps the givens exists, in a mirror job such a mirror board, with a target a board that steps to it; and
--- where none does
-abbrev pub boardLength : Kind → ℕ → ℕ → ℕ
-boardLength kind w h = cond (refills kind) (h * (h + 1) / 2 * 4 ^ kindDigits kind w + h) (h * (4 ^ kindDigits kind w + 1))
-
-abbrev pub noneLength : Kind → ℕ → ℕ → ℕ
-noneLength kind w h = h * 4 ^ kindDigits kind w + 1
-
--- what each unit does: the whole table is filled and then the rows are chosen; or the layers from h to k are filled before row k is chosen, layer i in the
--- half numbered i modulo 2
-abbrev pub planOf : Kind → ℕ → ℕ → ℕ → Elimination.Task
-planOf kind w h = cond (refills kind) (Two.plan h (2 ^ kindDigits kind w * 2 ^ kindDigits kind w)) (Whole.plan h (2 ^ kindDigits kind w * 2 ^ kindDigits kind w))
-
--- the choosing units among the first u: where the whole table is filled those beyond its h × 4^d entries
-abbrev pub chosenIn : Kind → ℕ → ℕ → ℕ → ℕ
-chosenIn kind w h = cond (refills kind) (chosenFrom (2 ^ kindDigits kind w * 2 ^ kindDigits kind w) h) (λ u. u - tableSize (kindDigits kind w) h)
-
--- the shape of a job: all that its numbers and stages go by; a row is a number below 2^d, and worth at most its w cells
-abbrev pub shapeOf : Kind → ℕ → ℕ → Shape
-shapeOf kind w h = record {
-  codes = 2 ^ kindDigits kind w;
-  entries = tableSize (kindDigits kind w) (layersOf kind h);
-  rows = h;
-  plan = planOf kind w h;
-  chosen = chosenIn kind w h;
-  boardLength = boardLength kind w h;
-  noneLength = noneLength kind w h;
-  most = w;
-}
-
--- Its rounds, one for each row, counted from 0: the unit at which round r starts, the entries that are filled in it, and where the layer starts by which
--- its row is chosen.
-abbrev pub roundStart : Kind → ℕ → ℕ → ℕ → ℕ
-roundStart kind w h = cond (refills kind) (Two.startOf h (4 ^ kindDigits kind w)) (Whole.startOf h (4 ^ kindDigits kind w))
-
-abbrev pub roundWork : Kind → ℕ → ℕ → ℕ → ℕ
-roundWork kind w h = cond (refills kind) (λ r. (h - r) * 4 ^ kindDigits kind w) (Whole.fillsBefore h (4 ^ kindDigits kind w))
-
-abbrev pub layerStart : Kind → ℕ → ℕ → ℕ
-layerStart kind w = cond (refills kind) (λ r. Two.half (4 ^ kindDigits kind w) (r + 1)) (λ r. r * 4 ^ kindDigits kind w)
-
-abbrev pub courseOf : Kind → ℕ → ℕ → Schedule
-courseOf kind w h = record { start = roundStart kind w h; work = roundWork kind w h; source = layerStart kind w }
 
 -- ---- the ten numbers of a job
 -- row above, last row, live cells so far and end mark of a stage
@@ -203,15 +117,6 @@ stageOf kind t =
 
 abbrev pub jobOf : Kind → Checkpoint → Job
 jobOf kind t = record { kind = kind; rule = ruleOf t; width = t .width; height = t .height; units = t .units; stage = stageOf kind t }
-
--- 15 where rows are held as their left halves
-abbrev pub mirrorCheck : Kind → ℕ → ℕ → List ℕ → Answer
-mirrorCheck kind w h givens = cond (halvesOf kind) (lopsidedCheck w h givens) passed
-
--- the checks of what is lent to be read, as opening and working make them: 3, 4 of a target; 3, 4, 14, 15 of givens
-unfoldable pub readCheck : Kind → Rule → ℕ → ℕ → List ℕ → Answer
-readCheck kind rule w h givens =
-    cond (hasTarget kind) (targetCheck w h givens) (givensCheck w h givens then edgeCheck rule w h givens then mirrorCheck kind w h givens)
 
 -- opening: 1, 2, 13 by how the kind holds rows, then those
 unfoldable pub openRule : Kind → Rule → ℕ → ℕ → List ℕ → Answer

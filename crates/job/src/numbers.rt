@@ -1,18 +1,19 @@
 // The numbers of a job: which of them fit, and the stage that they give.
 use crate::Checkpoint;
 use crate::Job;
-use crate::Kind;
 use crate::Stage;
 use crate::shape;
 use crate::shape::Round;
 use board::Check;
+use job_kind::Kind;
 use rule::Rule;
 ghost use mathlib.Core.Path.{_≡_};
 ghost use Rattle.board.specs.Boards.{maxMirrorWidth, maxHeight, Width};
 ghost use mathlib.Core.Bool.{true, cond};
 ghost use Prim.Native.Nat.{_≤_, _<_};
 ghost use Rattle.elimination.specs.Shape.{unitsFit, rowsChosen, rowsFit};
-ghost use Rattle.job.specs.Jobs.{halvesOf, shapeOf, aboveOf, lastOf, liveOf, markOf, ruleOf, checkpointFits, stageFits, jobFits, numbersOf, stageOf, jobOf};
+ghost use Rattle.job_kind.specs.Kinds.{halvesOf, shapeOf};
+ghost use Rattle.job.specs.Jobs.{aboveOf, lastOf, liveOf, markOf, ruleOf, checkpointFits, stageFits, jobFits, numbersOf, stageOf, jobOf};
 ghost use Rattle.job.specs.Inner.{RoundIs};
 ghost use Rattle.job.specs.declared.Stage.{Stage};
 

@@ -1,6 +1,6 @@
 // The shape of a job: in rounds, one for each row, layers are filled and then the row is chosen. The round that a unit is in says what it does.
-use crate::Kind;
 use crate::Task;
+use job_kind::Kind;
 ghost use mathlib.Core.Path.{_≡_};
 ghost use mathlib.Core.Bool.{cond};
 ghost use mathlib.Core.Option.{none, some};
@@ -8,7 +8,8 @@ ghost use lib.Dec.{ltb};
 ghost use Prim.Native.Nat.{_^_, _*_, _≤_, _<_};
 ghost use Rattle.board.specs.Boards.{maxHeight, Width};
 ghost use Rattle.elimination.specs.Rounds.{roundFill};
-ghost use Rattle.job.specs.Jobs.{halvesOf, kindDigits, boardLength, roundWork, layerStart, shapeOf, taskOf};
+ghost use Rattle.job_kind.specs.Kinds.{halvesOf, kindDigits, boardLength, roundWork, layerStart, shapeOf};
+ghost use Rattle.job.specs.Jobs.{taskOf};
 ghost use Rattle.job.specs.Inner.{RoundIs};
 
 // The round of a unit: the rows chosen before it, its place in the round, and the entries that are left to fill in the round, its own counted.

@@ -10,7 +10,8 @@ ghost use lib.Dec.{ltb};
 ghost use Prim.Native.Nat.{suc, _+_, _^_, _≤_, _<_};
 ghost use Rattle.elimination.specs.Task.{isFill};
 ghost use Rattle.elimination.specs.Shape.{afterEntries, afterNone};
-ghost use Rattle.job.specs.Jobs.{halvesOf, boardLength, runsWithin, shapeOf, numbersIn, numbersOf, jobWith, afterChoice};
+ghost use Rattle.job_kind.specs.Kinds.{halvesOf, boardLength, shapeOf};
+ghost use Rattle.job.specs.Jobs.{runsWithin, numbersIn, numbersOf, jobWith, afterChoice};
 ghost use Rattle.job.specs.declared.Chosen.{Chosen};
 
 // Whether the job runs, and its width and height are within their limits.

@@ -23,11 +23,11 @@ use Rattle.board_rows.specs.Calls.{rowWrites}
 use Rattle.elimination.specs.Shape.{unitsFit, rowsChosen, rowsFit, numbersFit, chosenFrom}
 use Rattle.edges.specs.Edges.{givenLiveAt, edgeThree, edgeCheck}
 use Rattle.mirror.specs.Mirror.{lopsidedCheck}
-use Rattle.job.specs.Jobs.{checkpointFits, jobFits, stageOf, readCheck, openRule, resumeRule}
+use Rattle.job.specs.Jobs.{checkpointFits, jobFits, stageOf, openRule, resumeRule}
+use Rattle.job_kind.specs.Kinds.{readCheck}
 use Rattle.service.specs.Units.{unitBy}
 use Rattle.service.specs.Service.{workCheck, worksOn, workOf}
-use Rattle.solver.specs.Working.{lentCheck}
-use Rattle.solver.specs.Units.{unitOf}
+use Rattle.third_demand.specs.Units.{lentCheck, unitOf}
 use Rattle.known.specs.Known.{workedIn, chosenBy, Known}
 use Rattle.known.proofs.Predecessors.{dead-target, live-target}
 

@@ -18,7 +18,7 @@ use Rattle.elimination.proofs.Numbers.{eq-or-lt-of-lt-suc}
 use Rattle.rule.specs.Rule.{Allowed, stateUnder}
 use Rattle.rule.specs.declared.Rule.{Rule}
 use Rattle.life.specs.Plane.{Plane, onPlane, neighbours, LeadsTo}
-use Rattle.solver.specs.Grid.{population}
+use Rattle.third_demand.specs.Grid.{population}
 use Rattle.known.specs.Known.{DeadTarget, LiveTarget}
 
 -- a sum of 0 is of noughts

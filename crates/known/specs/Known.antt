@@ -15,12 +15,12 @@ use Rattle.plaintext.specs.declared.Read.the-variants.{Board}
 use Rattle.board.specs.Checks.{tableSize}
 use Rattle.board_rows.specs.Calls.{rowWrites}
 use Rattle.job.specs.Jobs.{numbersOf, start, jobSays, openRule, resumeRule}
-use Rattle.job.specs.declared.Kind.{Kind}
+use Rattle.job_kind.specs.declared.Kind.{Kind}
 use Rattle.job.specs.declared.Checkpoint.{Checkpoint}
 use Rattle.job.specs.declared.Stage.{Stage}
 use Rattle.service.specs.Service.{Result, finished, infeasible, workOf}
-use Rattle.solver.specs.Grid.{Predecessor, Fewest}
-use Rattle.solver.specs.Units.{grid}
+use Rattle.third_demand.specs.Grid.{Predecessor, Fewest}
+use Rattle.third_demand.specs.Units.{grid}
 
 -- what a working call comes to: its answer, the units done, and the board
 pub record CallEnd : Type 0 where

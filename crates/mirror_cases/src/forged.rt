@@ -14,7 +14,7 @@ use crate::unit::Ran;
 use job::Checkpoint;
 use job::Job;
 use job::JobResult;
-use job::Kind;
+use job_kind::Kind;
 use rule::Rule;
 use solver::Status;
 use std::num;

@@ -12,7 +12,7 @@ use crate::random;
 use crate::rules;
 use crate::sizes;
 use crate::sizes::Size;
-use job::Kind;
+use job_kind::Kind;
 use rule::Rule;
 use std::num;
 

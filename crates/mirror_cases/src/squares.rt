@@ -8,9 +8,9 @@ use crate::sizes;
 use crate::sizes::Size;
 use job::Job;
 use job::JobResult;
-use job::Kind;
 use job::Paused;
 use job::Stage;
+use job_kind::Kind;
 use solver::Status;
 use std::num;
 

@@ -18,11 +18,11 @@ use Rattle.rule.specs.Rule.{conwayRule, gridCheck}
 use Rattle.life.proofs.OnPlane.{state-small}
 use Rattle.score_table.specs.Rows.{cellWorth}
 use Rattle.score_table.proofs.Marks.{cell-worth-le}
-use Rattle.job.specs.Jobs.{readCheck}
+use Rattle.job_kind.specs.Kinds.{readCheck}
 use Rattle.job.proofs.Fits.{frame-of}
-use Rattle.job.specs.declared.Kind.{Kind}
+use Rattle.job_kind.specs.declared.Kind.{Kind}
 use Rattle.service.specs.Service.{finished, infeasible}
-use Rattle.solver.specs.Grid.{score}
+use Rattle.third_demand.specs.Grid.{score}
 use Rattle.runner.specs.Solving.{memoryCheck, solveCheck, solvedSays, Ends, best, none, SolvesTo, Solves}
 use Rattle.runner.specs.declared.Solved as Solved
 use Rattle.puzzle.specs.Printing.{Prints}

@@ -9,8 +9,8 @@ use lib.Dec.{eqb}
 use lib.ListN.{length}
 use Rattle.board.specs.Answers.{refuses}
 use Rattle.board.specs.Checks.{tableCheck}
-use Rattle.job.specs.Jobs.{layersOf}
-use Rattle.job.specs.declared.Kind.{Kind}
+use Rattle.job_kind.specs.Kinds.{layersOf}
+use Rattle.job_kind.specs.declared.Kind.{Kind}
 
 -- 12, Long text: "program's input over 4,096 bytes"
 abbrev pub longestText : ℕ

@@ -8,7 +8,7 @@ ghost use Rattle.puzzle.specs.Sizes.{outputRoom, programSizes};
 ghost use Rattle.puzzle.specs.Texts.{givenOf};
 ghost use Rattle.puzzle.specs.Answering.{SolvesGrid, AnswersText, AnswersAny};
 use board::Refusal;
-use job::Kind;
+use job_kind::Kind;
 use plaintext::Read;
 use runner::Solved;
 

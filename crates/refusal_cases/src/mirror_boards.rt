@@ -4,8 +4,8 @@ use crate::rounds;
 use crate::workings;
 use job::Checkpoint;
 use job::Job;
-use job::Kind;
 use job::Stage;
+use job_kind::Kind;
 
 // Calls on a grid of 4 by 2, which needs 32 entries, each of which breaks the rule that it names and those checked after it.
 pub fn order() {

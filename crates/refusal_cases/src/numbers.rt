@@ -2,9 +2,9 @@
 use job::Checkpoint;
 use job::Job;
 use job::JobResult;
-use job::Kind;
 use job::Paused;
 use job::Stage;
+use job_kind::Kind;
 
 pub fn resumptions() {
     resume(b"resume, mark 3", 8, 0, 0, 3);

@@ -1,6 +1,6 @@
 // Openings.
 use crate::numbers;
-use job::Kind;
+use job_kind::Kind;
 use rule::Rule;
 
 pub fn sizes() {

@@ -4,8 +4,8 @@ use crate::rounds;
 use crate::workings;
 use job::Checkpoint;
 use job::Job;
-use job::Kind;
 use job::Stage;
+use job_kind::Kind;
 
 // Calls on a target of 3 by 2, which needs 128 entries, each of which breaks the rule that it names and those checked after it. Three live cells along
 // an edge, and three bytes of 2, are no edge three here.

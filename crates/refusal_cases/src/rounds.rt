@@ -5,9 +5,9 @@ use crate::workings;
 use job::Checkpoint;
 use job::Job;
 use job::JobResult;
-use job::Kind;
 use job::Paused;
 use job::Stage;
+use job_kind::Kind;
 
 // Numbers of each kind, and of none, resumed as either.
 pub fn kinds() {

@@ -3,8 +3,8 @@ use crate::numbers;
 use crate::rounds;
 use crate::workings;
 use job::Job;
-use job::Kind;
 use job::Stage;
+use job_kind::Kind;
 
 // An ordinary job's, where the only entry that counts is (2, 3, 3): row 2 can be chosen, row 3 cannot.
 pub fn calls() {

@@ -4,8 +4,8 @@ use crate::numbers;
 use crate::rounds;
 use crate::workings;
 use job::Job;
-use job::Kind;
 use job::Stage;
+use job_kind::Kind;
 
 // Calls on a grid of 3 by 2, each of which breaks the rule that it names and those checked after it.
 pub fn order() {

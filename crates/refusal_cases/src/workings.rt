@@ -1,8 +1,8 @@
 // Working calls, most on a grid of 2 by 2, which needs 32 entries. The table's entries are 700 and the board's bytes 9 before each call.
 use crate::numbers;
 use job::Job;
-use job::Kind;
 use job::Stage;
+use job_kind::Kind;
 use solver::Status;
 use std::num;
 

@@ -9,15 +9,15 @@ use lib.ListN.{length}
 use Rattle.board.specs.Answers.{passed}
 use Rattle.rule.specs.declared.Rule.{Rule}
 use Rattle.board.specs.Checks.{tableSize}
-use Rattle.job.specs.Jobs.{kindDigits, layersOf, start, readCheck}
+use Rattle.job_kind.specs.Kinds.{kindDigits, layersOf, readCheck}
+use Rattle.job.specs.Jobs.{start}
 use Rattle.service.specs.Service.{next, spoiled, onStep, worksOn, workCheck}
-use Rattle.solver.specs.Working.{lentCheck}
-use Rattle.solver.specs.Units.{State, Step, unitOf, grid}
-use Rattle.solver.specs.Inner.{Lent}
-use Rattle.job.specs.declared.Kind.{Kind}
+use Rattle.third_demand.specs.Units.{lentCheck, State, Step, unitOf, grid}
+use Rattle.third_demand.specs.Lent.{Lent}
+use Rattle.job_kind.specs.declared.Kind.{Kind}
 use Rattle.job.specs.declared.Job.{Job}
 use Rattle.job.proofs.Fits.{Frame, start-fits}
-use Rattle.solver.proofs.UnitLaws.{unit-fits, unit-lent}
+use Rattle.third_demand.proofs.UnitLaws.{unit-fits, unit-lent}
 use Rattle.runner.specs.Solving.{memoryCheck}
 
 -- ---- an opened job

@@ -8,11 +8,11 @@ use Rattle.board.specs.declared.Refusal.{Refusal}
 use Rattle.board.proofs.Answers.{refuses-none}
 use Rattle.rule.specs.Rule.{gridCheck}
 use Rattle.rule.specs.declared.Rule.{Rule}
-use Rattle.job.specs.Jobs.{start, jobSays, halvesOf, readCheck, openRule, jobResultSays}
-use Rattle.job.proofs.Fits.{frame-passes}
-use Rattle.job.proofs.ReadChecks.{opening-shows}
+use Rattle.job.specs.Jobs.{start, jobSays, openRule, jobResultSays}
+use Rattle.job_kind.specs.Kinds.{halvesOf, readCheck}
+use Rattle.job.proofs.Fits.{frame-passes, opening-shows}
 use Rattle.job.specs.Calls.{Opens}
-use Rattle.job.specs.declared.Kind.{Kind}
+use Rattle.job_kind.specs.declared.Kind.{Kind}
 use Rattle.job.specs.declared.Job.{Job}
 use Rattle.job.specs.declared.JobResult.{JobResult}
 use Rattle.runner.specs.Solving.{memoryCheck, solveCheck, Solves, Ready, Runs}

@@ -10,24 +10,24 @@ use lib.Dec.{leb}
 use Rattle.board.specs.Answers.{Answer, gives, refuses, passed, Checked}
 use Rattle.board.proofs.Answers.{refuses-none}
 use Rattle.rule.specs.declared.Rule.{Rule}
-use Rattle.solver.specs.Grid.{countBy}
-use Rattle.job.specs.Jobs.{hasTarget, refills, boardLength, noneLength, start, readCheck}
+use Rattle.third_demand.specs.Grid.{countBy}
+use Rattle.job_kind.specs.Kinds.{hasTarget, refills, boardLength, noneLength, readCheck}
+use Rattle.job.specs.Jobs.{start}
 use Rattle.service.specs.Service.{workCheck, workOf, unfinished, finished, infeasible}
-use Rattle.solver.specs.Units.{State, grid}
+use Rattle.third_demand.specs.Units.{State, grid}
 use Rattle.solver.specs.Calls.{Result}
-use Rattle.solver.specs.Inner.{lentState}
+use Rattle.third_demand.specs.Lent.{lentState}
 use Rattle.service.specs.Demand.{Call, work, afterWork, afterCall, run, Each, Fair, counted, allowed, summed, Answers, Served, Outcome, solved, unsolvable}
 use Rattle.service.specs.JobKinds.{aimOf}
-use Rattle.solver.specs.Demand.{TableBy, TableAfter, gridKind, ThirdDemand}
+use Rattle.third_demand.specs.Demand.{TableBy, TableAfter, gridKind, ThirdDemand}
 use Rattle.job.specs.Calls.{Opens}
-use Rattle.job.specs.declared.Kind.{Kind}
+use Rattle.job_kind.specs.declared.Kind.{Kind}
 use Rattle.job.specs.declared.Job.{Job}
 use Rattle.job.specs.declared.JobResult.{JobResult}
-use Rattle.solver.proofs.CheckLaws.{work-checked, lent-of}
-use Rattle.job.proofs.Shapes.{shorter, entries-all}
-use Rattle.job.proofs.Fits.{Frame}
-use Rattle.job.proofs.ReadChecks.{opening-shows}
-use Rattle.solver.proofs.Third.{third-demand}
+use Rattle.third_demand.proofs.CheckLaws.{work-checked, lent-of}
+use Rattle.job_kind.proofs.Shapes.{shorter, entries-all}
+use Rattle.job.proofs.Fits.{Frame, opening-shows}
+use Rattle.third_demand.proofs.Third.{third-demand}
 use Rattle.runner.specs.Solving.{memoryCheck, solvedSays, TableEnds, Ends, best, none, SolvesTo, Ready, Runs}
 use Rattle.runner.specs.declared.Solved.{Solved}
 use Rattle.runner.proofs.Appending.{run-append, summed-append, each-append, each-last}

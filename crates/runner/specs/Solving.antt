@@ -8,12 +8,12 @@ use Rattle.board.specs.Answers.{Answer, refuses, passed, refusalSays, _then_}
 use Rattle.board.specs.Checks.{lengthCheck, tableSize, tableCheck}
 use Rattle.rule.specs.Rule.{gridCheck}
 use Rattle.rule.specs.declared.Rule.{Rule}
-use Rattle.solver.specs.Grid.{SolutionBy, OptimalBy, countBy}
-use Rattle.job.specs.Jobs.{halvesOf, hasTarget, refills, kindDigits, layersOf, boardLength, noneLength, readCheck}
+use Rattle.third_demand.specs.Grid.{SolutionBy, OptimalBy, countBy}
+use Rattle.job_kind.specs.Kinds.{halvesOf, hasTarget, refills, kindDigits, layersOf, boardLength, noneLength, readCheck}
 use Rattle.job.specs.Calls.{Opens}
 use Rattle.service.specs.Service.{finished, infeasible}
-use Rattle.solver.specs.Demand.{FilledTo, TwoLayersTo}
-use Rattle.job.specs.declared.Kind.{Kind}
+use Rattle.third_demand.specs.Demand.{FilledTo, TwoLayersTo}
+use Rattle.job_kind.specs.declared.Kind.{Kind}
 use Rattle.job.specs.declared.Job.{Job}
 use Rattle.job.specs.declared.JobResult.{JobResult}
 use Rattle.runner.specs.declared.Solved.{Solved}

@@ -2,7 +2,7 @@
 use board::Refusal;
 use job::Job;
 use job::JobResult;
-use job::Kind;
+use job_kind::Kind;
 use rule::Rule;
 use solver::Status;
 ghost use Rattle.runner.specs.Solving.{Solves, Runs, Ready};

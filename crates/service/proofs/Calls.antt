@@ -9,7 +9,7 @@ use Rattle.board.proofs.Answers.{refuses-none, then-gives, unless-gives, checke
 use Rattle.job.specs.Jobs.{jobFits, checkpointFits, checkpointSays, jobOf, pauseRule, resumeRule}
 use Rattle.job.specs.declared.Stage.{Stage}
 use Rattle.job.specs.declared.Job.{Job}
-use Rattle.job.specs.declared.Kind.{Kind}
+use Rattle.job_kind.specs.declared.Kind.{Kind}
 use Rattle.job.specs.declared.Checkpoint.{Checkpoint}
 use Rattle.job.proofs.Fits.{pausable, paused-numbers, job-back, of-kind}
 use Rattle.service.specs.Service.{stageSays, State, Step, next, spoiled, onStep, Service, worksOn, workCheck, workBy, workOf}

@@ -19,7 +19,8 @@ use Rattle.elimination.specs.Shape.{Shape, Numbers, afterRow, rowsChosen}
 use Rattle.elimination.proofs.Candidates.{RowBelow}
 use Rattle.elimination.proofs.Kind.{choose-below}
 use Rattle.elimination.proofs.Shape.{Units, runs, ends, fails, chosen-few}
-use Rattle.job.specs.Jobs.{shapeOf, aboveOf, lastOf, liveOf, markOf, numbersOf, stageFits, stageOf, jobFits, numbersWith, jobWith}
+use Rattle.job_kind.specs.Kinds.{shapeOf}
+use Rattle.job.specs.Jobs.{aboveOf, lastOf, liveOf, markOf, numbersOf, stageFits, stageOf, jobFits, numbersWith, jobWith}
 use Rattle.job.specs.declared.Stage.{Stage}
 use Rattle.job.specs.declared.Job.{Job}
 use Rattle.job.specs.declared.Checkpoint.{Checkpoint}

@@ -18,7 +18,7 @@ use Rattle.elimination.proofs.Kind.{choose-below}
 use Rattle.job.specs.Jobs.{aboveOf, lastOf, liveOf, markOf, numbersOf, jobOf, jobFits, checkpointFits, numbersWith, jobWith}
 use Rattle.job.specs.declared.Stage.{Stage}
 use Rattle.job.specs.declared.Job.{Job}
-use Rattle.job.specs.declared.Kind.{Kind}
+use Rattle.job_kind.specs.declared.Kind.{Kind}
 use Rattle.job.specs.declared.Checkpoint.{Checkpoint}
 use Rattle.job.proofs.Checkpoints.{numbers-of-job, resumed-fits}
 use Rattle.service.specs.Service.{unfinished, stageSays, State, Step, next, spoiled}

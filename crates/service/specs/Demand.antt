@@ -7,7 +7,7 @@ use Prim.Native.Nat.{ℕ, _+_, _≤_, _<_, min}
 use Rattle.board.specs.Answers.{Answer, gives, refuses, passed}
 use Rattle.job.specs.Jobs.{jobSays, checkpointSays, checkpointFits, jobOf, pauseRule, resumeRule}
 use Rattle.job.specs.Calls.{Pausable}
-use Rattle.job.specs.declared.Kind.{Kind}
+use Rattle.job_kind.specs.declared.Kind.{Kind}
 use Rattle.job.specs.declared.Checkpoint.{Checkpoint}
 use Rattle.service.specs.Service.{unfinished, infeasible, State, Service, Result, workCheck, workOf}
 

@@ -11,7 +11,8 @@ use Rattle.elimination.specs.Table.{reads, fillEntry}
 use Rattle.elimination.specs.Task.{Task, fill, row}
 use Rattle.elimination.specs.Job.{Setup}
 use Rattle.elimination.specs.Shape.{Shape, Numbers, afterEntry, afterRow, afterNone, ShapeLaws}
-use Rattle.job.specs.Jobs.{aboveOf, lastOf, liveOf, markOf, shapeOf, numbersOf, numbersIn, jobOf, jobFits, checkpointFits, numbersWith, jobWith}
+use Rattle.job.specs.Jobs.{aboveOf, lastOf, liveOf, markOf, numbersOf, numbersIn, jobOf, jobFits, checkpointFits, numbersWith, jobWith}
+use Rattle.job_kind.specs.Kinds.{shapeOf}
 use Rattle.job.specs.declared.Job.{Job}
 use Rattle.job.specs.declared.Checkpoint.{Checkpoint}
 use Rattle.service.specs.Service.{State, Step, next, spoiled}

@@ -16,23 +16,25 @@ use Rattle.elimination.specs.Shape.{Numbers, afterEntry, afterEntries, afterRow
 use Rattle.elimination.specs.Job.{Setup}
 use Rattle.score_table.specs.Rows.{rowWorth, marksOf, rowFor}
 use Rattle.score_table.proofs.Marks.{row-worth-le}
-use Rattle.job.specs.Jobs.{hasTarget, kindDigits, shapeOf, aboveOf, lastOf, markOf, liveOf, jobFits, taskDue, jobWith, afterUnit, afterFills}
+use Rattle.job_kind.specs.Kinds.{hasTarget, kindDigits, shapeOf}
+use Rattle.job.specs.Jobs.{aboveOf, lastOf, markOf, liveOf, jobFits, taskDue, jobWith, afterUnit, afterFills}
 use Rattle.job.specs.declared.Job.{Job}
 use Rattle.job.specs.declared.Chosen.{Chosen}
-use Rattle.job.proofs.Shapes.{shape-rounds}
+use Rattle.job_kind.proofs.Shapes.{shape-rounds}
 use Rattle.job.proofs.Next.{fits-until, due-none, entries-none, entries-here, entries-more, after-run, after-row, after-none}
 use Rattle.service.specs.Service.{next, spoiled, worksOn, stageSays}
 use Rattle.service.specs.Units.{here, rowStep, markStep, unitBy}
 use Rattle.service.proofs.Calls.{works-none, works-next, works-still, works-spoiled}
 use Rattle.board_rows.specs.Rows.{putRow}
-use Rattle.solver.specs.Units.{State, wantBy, gridRows, setupOf, unitOf, grid}
-use Rattle.solver.specs.Inner.{lentState, stepOf, Lent, Chooses, Moves}
+use Rattle.third_demand.specs.Units.{State, wantBy, gridRows, setupOf, unitOf, grid}
+use Rattle.third_demand.specs.Lent.{lentState, Lent, Chooses}
+use Rattle.solver.specs.Inner.{stepOf, Moves}
 use Rattle.solver.specs.declared.choosing.Stepped.{Stepped}
 use Rattle.elimination.proofs.Candidates.{RowBelow}
 use Rattle.elimination.proofs.Kind.{choose-below}
 use Rattle.elimination.proofs.Table.{fill-none, fill-more}
 use Rattle.elimination.proofs.Rounds.{fill-run}
-use Rattle.solver.proofs.UnitLaws.{unit-fits, unit-lent, row-in}
+use Rattle.third_demand.proofs.UnitLaws.{unit-fits, unit-lent, row-in}
 
 next-not-spoiled : {j : Job} {A : Type 0} → Stepped.Next j ≡ Stepped.Spoiled → A
 next-not-spoiled e = absurd (let z : _≡_ {A = ℕ} 0 1 = cc in omega arith)

@@ -7,7 +7,7 @@ use Rattle.job.specs.declared.Job.{Job}
 use Rattle.service.specs.Service.{workOf}
 use Rattle.service.specs.Service as Shared
 use Rattle.solver.specs.Working.{statusSays}
-use Rattle.solver.specs.Units.{grid}
+use Rattle.third_demand.specs.Units.{grid}
 use Rattle.solver.specs.declared.Worked.{Worked}
 
 abbrev pub Result : Type 0

@@ -1,20 +1,8 @@
--- Document 01, "Turned away": the checks of what a working call is lent, and what the call answers.
+-- Document 01, "A job and its units" and "Turned away": what a working call answers.
 -- Assumes nothing.
-use mathlib.Core.List.{List}
-use Prim.Native.Nat.{ℕ}
-use Rattle.board.specs.Answers.{Answer, refusalSays, _then_}
-use Rattle.board.specs.Checks.{lengthCheck, tableCheck}
-use Rattle.job.specs.Jobs.{kindDigits, layersOf, readCheck}
-use Rattle.job.specs.declared.Job.{Job}
+use Rattle.board.specs.Answers.{Answer, refusalSays}
 use Rattle.service.specs.Service.{unfinished, finished, infeasible}
 use Rattle.solver.specs.declared.Status.{Status}
-
--- the checks after 7: those of what is read, as opening makes them, then 5, and 6 by the layers of the job's kind
-unfoldable pub lentCheck : Job → List ℕ → List ℕ → List ℕ → Answer
-lentCheck j givens table board =
-    readCheck (j .kind) (j .rule) (j .width) (j .height) givens then
-    lengthCheck 5 (j .width) (j .height) board then
-    tableCheck (kindDigits (j .kind) (j .width)) (layersOf (j .kind) (j .height)) table
 
 -- the paper's number and values of each answer
 abbrev pub statusSays : Status → Answer

@@ -4,7 +4,8 @@ use job::Chosen;
 use job::Job;
 use score_table::Picked;
 ghost use Rattle.rule.specs.Rule.{Holds, nextUnder};
-ghost use Rattle.solver.specs.Inner.{Chooses, Moves};
+ghost use Rattle.third_demand.specs.Lent.{Chooses};
+ghost use Rattle.solver.specs.Inner.{Moves};
 
 // What a unit that chooses comes to: the next job; or no row can be chosen after row 1.
 pub enum Stepped {

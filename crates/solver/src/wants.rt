@@ -1,8 +1,8 @@
 // What is wanted of a grid's rows.
-use job::Kind;
+use job_kind::Kind;
 use score_table::Want;
 ghost use mathlib.Core.Path.{_≡_};
-ghost use Rattle.solver.specs.Units.{wantBy};
+ghost use Rattle.third_demand.specs.Units.{wantBy};
 
 // By the kind of job.
 pub fn want_by(kind: Kind) -> Want

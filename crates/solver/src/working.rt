@@ -16,9 +16,9 @@ ghost use Rattle.board.specs.Answers.{checkSays};
 ghost use Rattle.board.specs.Boards.{maxWidth};
 ghost use Rattle.service.specs.Service.{workCheck, worksOn, stageSays};
 ghost use Rattle.solver.specs.Working.{statusSays};
-ghost use Rattle.solver.specs.Units.{grid};
+ghost use Rattle.third_demand.specs.Units.{grid};
 ghost use Rattle.solver.specs.Calls.{resultOf};
-ghost use Rattle.solver.specs.Inner.{Lent, lentState};
+ghost use Rattle.third_demand.specs.Lent.{Lent, lentState};
 
 // The checks of a working call: 7 as pausing, then 3, 4, 14, 15, 5, 6; with a target 3, 4, 5, 6.
 pub fn check_work(job: Job, givens: &[u8], table: &[u16], board: &[u8]) -> Check
@@ -30,7 +30,7 @@ pub fn check_work(job: Job, givens: &[u8], table: &[u16], board: &[u8]) -> Check
     let kind = job.kind;
     let w = job.width;
     let h = job.height;
-    if let Check::Refused(r) = job::check_read(kind, job.rule, w, h, givens) {
+    if let Check::Refused(r) = job_kind::check_read(kind, job.rule, w, h, givens) {
         return Check::Refused(r);
     }
     if !board::has_length(board, w, h) {

@@ -10,13 +10,13 @@ use Rattle.rule.specs.Rule.{conwayRule}
 use Rattle.rule.specs.declared.Rule.{Rule}
 use Rattle.job.specs.Jobs.{start, openRule, jobResultSays}
 use Rattle.job.specs.Calls.{Opens}
-use Rattle.job.specs.declared.Kind.{Kind}
+use Rattle.job_kind.specs.declared.Kind.{Kind}
 use Rattle.job.specs.declared.Job.{Job}
 use Rattle.job.specs.declared.JobResult.{JobResult}
 use Rattle.service.specs.Service.{unfinished, workOf}
-use Rattle.solver.specs.Units.{State, grid}
+use Rattle.third_demand.specs.Units.{State, grid}
 use Rattle.solver.specs.Calls.{Result}
-use Rattle.solver.specs.Inner.{lentState}
+use Rattle.third_demand.specs.Lent.{lentState}
 use Rattle.solver_c.specs.InCalls.{callsOf, codeOf, kindAt, WorksInCalls, MakesCalls}
 
 -- ---- calls

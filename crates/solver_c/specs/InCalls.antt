@@ -9,13 +9,14 @@ use lib.Dec.{eqb}
 use lib.ListN.{getD}
 use Rattle.board.specs.Answers.{Answer, gives, refuses}
 use Rattle.rule.specs.Rule.{conwayRule}
-use Rattle.job.specs.Jobs.{kindNumber, openRule, start}
-use Rattle.job.specs.declared.Kind.{Kind}
+use Rattle.job_kind.specs.Kinds.{kindNumber}
+use Rattle.job.specs.Jobs.{openRule, start}
+use Rattle.job_kind.specs.declared.Kind.{Kind}
 use Rattle.job.specs.declared.Job.{Job}
 use Rattle.service.specs.Service.{unfinished, workOf}
-use Rattle.solver.specs.Units.{State, grid}
+use Rattle.third_demand.specs.Units.{State, grid}
 use Rattle.solver.specs.Calls.{Result}
-use Rattle.solver.specs.Inner.{lentState}
+use Rattle.third_demand.specs.Lent.{lentState}
 
 -- ---- calls
 -- so many working calls of an allowance, each on what the one before left; before the first the answer is "unfinished"

@@ -1,7 +1,7 @@
 // The solver for C: a job in working calls.
 use job::Job;
 use job::JobResult;
-use job::Kind;
+use job_kind::Kind;
 use solver::Status;
 ghost use mathlib.Core.Path.{_≡_};
 ghost use Rattle.solver.specs.Working.{statusSays};

@@ -8,7 +8,7 @@ use crate::sizes;
 use crate::sizes::Size;
 use job::Job;
 use job::JobResult;
-use job::Kind;
+use job_kind::Kind;
 use rule::Rule;
 use std::num;
 

@@ -2,7 +2,7 @@
 use crate::calls;
 use crate::numbers;
 use job::Checkpoint;
-use job::Kind;
+use job_kind::Kind;
 use std::num;
 
 // A kind and a size, and its jobs' lengths where a board exists and where none does.

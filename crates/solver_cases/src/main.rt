@@ -16,7 +16,7 @@ mod rules;
 mod sizes;
 mod unit;
 
-use job::Kind;
+use job_kind::Kind;
 
 fn main() {
     grids::try_all();

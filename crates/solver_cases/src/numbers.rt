@@ -9,9 +9,9 @@ use crate::unit;
 use job::Checkpoint;
 use job::Job;
 use job::JobResult;
-use job::Kind;
 use job::Paused;
 use job::Stage;
+use job_kind::Kind;
 use rule::Rule;
 use std::num;
 

@@ -1,5 +1,5 @@
 // A kind of job over a size of board, with what follows from them.
-use job::Kind;
+use job_kind::Kind;
 use std::num;
 ghost use Prim.Native.Nat.{_<_};
 

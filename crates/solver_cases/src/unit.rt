@@ -8,8 +8,8 @@ use crate::sizes;
 use crate::sizes::Size;
 use job::Checkpoint;
 use job::Job;
-use job::Kind;
 use job::Stage;
+use job_kind::Kind;
 use rule::Rule;
 use std::num;
 

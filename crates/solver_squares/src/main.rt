@@ -2,9 +2,9 @@
 // kinds of job, and the boards compared; side 10 by two layers only, since its whole table is more than a program's stack holds.
 use job::Job;
 use job::JobResult;
-use job::Kind;
 use job::Paused;
 use job::Stage;
+use job_kind::Kind;
 use life::Verdict;
 use solver::Status;
 use std::num;

@@ -16,15 +16,16 @@ use Rattle.board.proofs.Checks.{size-passes, checks-right}
 use Rattle.rule.specs.Rule.{ruleFits, ruleCheck, gridCheck}
 use Rattle.rule.specs.declared.Rule.{Rule}
 use Rattle.edges.specs.Edges.{firstEdgeThree, bornOn3, edgeCheck}
-use Rattle.job.specs.Jobs.{hasTarget, readCheck, openRule}
-use Rattle.job.specs.declared.Kind.{Kind}
+use Rattle.job_kind.specs.Kinds.{hasTarget, readCheck}
+use Rattle.job.specs.Jobs.{openRule}
+use Rattle.job_kind.specs.declared.Kind.{Kind}
 use Rattle.service.specs.Service.{unfinished, finished, infeasible, workOf}
 use Rattle.service.specs.Demand.{Call, work, pause, resume, afterCall, Each, Answers, Outcome, solved, unsolvable}
 use Rattle.service.specs.JobKinds.{aimOf}
-use Rattle.solver.specs.Grid.{SolutionBy, OptimalBy, countBy}
-use Rattle.solver.specs.Units.{State, grid}
-use Rattle.solver.specs.Demand.{gridKind, ThirdDemand}
-use Rattle.solver.proofs.Third.{third-demand}
+use Rattle.third_demand.specs.Grid.{SolutionBy, OptimalBy, countBy}
+use Rattle.third_demand.specs.Units.{State, grid}
+use Rattle.third_demand.specs.Demand.{gridKind, ThirdDemand}
+use Rattle.third_demand.proofs.Third.{third-demand}
 use Rattle.runner.specs.Solving.{memoryCheck, solveCheck, Ends, SolvesTo}
 use Rattle.runner.specs.Solving as Solving
 use Rattle.turns.specs.Turn.{Turn, turnedWidth, turnedHeight, turnedBytes}

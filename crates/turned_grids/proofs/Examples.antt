@@ -18,14 +18,14 @@ use Rattle.elimination.specs.TwoLayers.{planFrom}
 use Rattle.elimination.specs.Shape.{unitsFit, rowsChosen, rowsFit, numbersFit, chosenFrom}
 use Rattle.life.specs.Rows.{cellOf, becomes, stepsTo}
 use Rattle.score_table.specs.Rows.{markKept, rowKept, cellWorth, rowWorth}
-use Rattle.job.specs.Jobs.{checkpointFits, jobFits, stageOf, readCheck, openRule, start, jobSays}
+use Rattle.job.specs.Jobs.{checkpointFits, jobFits, stageOf, openRule, start, jobSays}
+use Rattle.job_kind.specs.Kinds.{readCheck}
 use Rattle.job.specs.declared.Job.{Job}
 use Rattle.job.specs.declared.JobResult.{JobResult}
-use Rattle.job.specs.declared.Kind.{Kind}
+use Rattle.job_kind.specs.declared.Kind.{Kind}
 use Rattle.service.specs.Units.{unitBy}
 use Rattle.service.specs.Service.{workCheck, worksOn, workOf}
-use Rattle.solver.specs.Working.{lentCheck}
-use Rattle.solver.specs.Units.{unitOf}
+use Rattle.third_demand.specs.Units.{lentCheck, unitOf}
 use Rattle.turns.specs.Turn.{source, turnedList}
 use Rattle.turned_grids.specs.Calls.{FairCalls}
 use Rattle.turned_grids.specs.Examples.{opened, oneCall, Examples}

@@ -14,11 +14,11 @@ use Rattle.rule.specs.Rule.{Allowed}
 use Rattle.rule.specs.declared.Rule.{Rule}
 use Rattle.life.specs.Plane.{onPlane, Still}
 use Rattle.score_table.specs.Rows.{cellWorth}
-use Rattle.job.specs.declared.Kind.{Kind}
-use Rattle.solver.specs.Grid.{KeepsGivens, Solution, Optimal, score}
-use Rattle.solver.specs.Theorems.{BestOrNone}
-use Rattle.solver.specs.Theorems as Solver
-use Rattle.solver.proofs.Theorems.{choice-is-optimal}
+use Rattle.job_kind.specs.declared.Kind.{Kind}
+use Rattle.third_demand.specs.Grid.{KeepsGivens, Solution, Optimal, score}
+use Rattle.third_demand.specs.Theorems.{BestOrNone}
+use Rattle.third_demand.specs.Theorems as Solver
+use Rattle.third_demand.proofs.Theorems.{choice-is-optimal}
 use Rattle.turns.specs.Turn.{Quarters, none, once, twice, thrice, Turn, inverse, sideAfter, turnedWidth, turnedHeight, source, turnedBytes}
 use Rattle.turns.proofs.Cells.{width-twice, height-twice}
 use Rattle.turns.proofs.Places.{area, source-lt, turned-length, turned-at, turned-twice, undone, turned-back}

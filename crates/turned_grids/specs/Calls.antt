@@ -9,15 +9,16 @@ use mathlib.Core.List.{List, [], _∷_}
 use Prim.Native.Nat.{ℕ}
 use Rattle.board.specs.Answers.{Answer, gives, refuses, passed}
 use Rattle.rule.specs.declared.Rule.{Rule}
-use Rattle.job.specs.Jobs.{halvesOf, hasTarget, openRule}
+use Rattle.job_kind.specs.Kinds.{halvesOf, hasTarget}
+use Rattle.job.specs.Jobs.{openRule}
 use Rattle.job.specs.Calls.{Opens}
-use Rattle.job.specs.declared.Kind.{Kind}
+use Rattle.job_kind.specs.declared.Kind.{Kind}
 use Rattle.job.specs.declared.JobResult.{JobResult}
 use Rattle.service.specs.Service.{unfinished, infeasible, workCheck, workOf}
 use Rattle.service.specs.Demand.{Call, work, pause, resume, afterCall, Each, Fair, Aim, Outcome, solved, unsolvable}
 use Rattle.service.specs.JobKinds.{aimOf}
-use Rattle.solver.specs.Units.{State, grid}
-use Rattle.solver.specs.Demand.{gridKind}
+use Rattle.third_demand.specs.Units.{State, grid}
+use Rattle.third_demand.specs.Demand.{gridKind}
 use Rattle.runner.specs.Solving.{solvedSays, memoryCheck, Solves}
 use Rattle.runner.specs.declared.Solved.{Solved}
 use Rattle.turns.specs.Turn.{Turn, turnedWidth, turnedHeight, turnedBytes}

@@ -7,11 +7,12 @@ use Prim.Native.Nat.{ℕ, _*_}
 use lib.ListN.{replicate}
 use Rattle.board.specs.Checks.{tableSize}
 use Rattle.rule.specs.Rule.{conwayRule}
-use Rattle.job.specs.Jobs.{start, layersOf}
-use Rattle.job.specs.declared.Kind.{Kind}
+use Rattle.job.specs.Jobs.{start}
+use Rattle.job_kind.specs.Kinds.{layersOf}
+use Rattle.job_kind.specs.declared.Kind.{Kind}
 use Rattle.service.specs.Service.{finished, infeasible}
 use Rattle.service.specs.Demand.{Call, work}
-use Rattle.solver.specs.Units.{State, grid}
+use Rattle.third_demand.specs.Units.{State, grid}
 use Rattle.board.specs.Answers.{Answer}
 use Rattle.turns.specs.Turn.{once, turnedBytes}
 use Rattle.turns.specs.Examples.{turnOf}

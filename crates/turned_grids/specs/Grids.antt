@@ -11,7 +11,7 @@ use Rattle.rule.specs.Rule.{Allowed}
 use Rattle.rule.specs.declared.Rule.{Rule}
 use Rattle.edges.specs.Edges.{edgeThree}
 use Rattle.life.specs.Plane.{onPlane, Still}
-use Rattle.solver.specs.Grid.{Solution, Optimal, score}
+use Rattle.third_demand.specs.Grid.{Solution, Optimal, score}
 use Rattle.turns.specs.Turn.{Turn, turnedWidth, turnedHeight, Cell, cellFrom, turnedBytes}
 
 -- ---- boards

@@ -10,7 +10,7 @@ use crate::grids::Group;
 use crate::random;
 use crate::turns;
 use crate::turns::Turn;
-use job::Kind;
+use job_kind::Kind;
 use rule::Rule;
 use std::num;
 

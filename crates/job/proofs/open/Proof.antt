@@ -10,10 +10,11 @@ use Rattle.board.specs.declared.Refusal.{Refusal}
 use Rattle.board.proofs.Answers.{turned-away, passed-on}
 use Rattle.rule.specs.Rule.{gridCheck}
 use Rattle.rule.specs.declared.Rule.{Rule}
-use Rattle.job.specs.declared.Kind.{Kind}
+use Rattle.job_kind.specs.declared.Kind.{Kind}
 use Rattle.job.specs.declared.Job.{Job}
 use Rattle.job.specs.declared.JobResult.{JobResult}
-use Rattle.job.specs.Jobs.{halvesOf, openRule}
+use Rattle.job_kind.specs.Kinds.{halvesOf}
+use Rattle.job.specs.Jobs.{openRule}
 use Rattle.job.specs.Calls.{Opens}
 use Rattle.job.proofs.open.Statement.{statement}
 use Rattle.job.proofs.open.Tie as tie

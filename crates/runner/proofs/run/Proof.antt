@@ -6,9 +6,9 @@ use Prim.Native.Nat.{_-_}
 use native.Mathlib.Omega.{arith}
 use borrow.Author.Needs.{needs}
 use lib.ListN.{length}
-use Rattle.job.specs.Jobs.{boardLength}
+use Rattle.job_kind.specs.Kinds.{boardLength}
 use Rattle.solver.specs.Working.{statusSays}
-use Rattle.solver.specs.Inner.{lentState}
+use Rattle.third_demand.specs.Lent.{lentState}
 use Rattle.runner.proofs.Turns.{Going, ready-begins, turn-goes-on, turn-ends}
 use Rattle.runner.proofs.run.Statement.{statement}
 use Rattle.runner.proofs.run.Tie as tie

@@ -4,7 +4,7 @@ use mathlib.Core.Path.{sym, _∙_, ap}
 use Rattle.board.proofs.Answers.{let-through}
 use Rattle.board.specs.Answers.{checkSays}
 use Rattle.service.specs.Service.{workOf}
-use Rattle.solver.proofs.CheckLaws.{lent-of}
+use Rattle.third_demand.proofs.CheckLaws.{lent-of}
 use borrow.Author.Needs.{needs}
 use Rattle.solver.proofs.work.Statement.{statement}
 use Rattle.solver.proofs.work.Tie as tie

@@ -9,7 +9,7 @@ use lib.ListN.{length}
 use Rattle.job.specs.declared.Job.{Job}
 use Rattle.solver.specs.Working.{statusSays}
 use Rattle.solver.specs.Calls.{Result}
-use Rattle.solver.specs.Inner.{lentState}
+use Rattle.third_demand.specs.Lent.{lentState}
 use Rattle.solver.specs.declared.Status.{Status}
 use Rattle.solver_c.specs.InCalls.{callsOf}
 use Rattle.solver_c.proofs.InCalls.{calls-none, calls-more, calls-made}

@@ -7,7 +7,7 @@ use native.Mathlib.Omega.{arith}
 use borrow.Author.Needs.{needs}
 use borrow.Author.Tests.{not-true, not-false}
 use Rattle.job.specs.Jobs.{runsWithin}
-use Rattle.job.proofs.Shapes.{fills-on, units-on, rows-left}
+use Rattle.job.proofs.Rounds.{fills-on, units-on, rows-left}
 use Rattle.job.proofs.Next.{runs-within, after-never, after-fills, after-chooses, after-spent, rows-early}
 use Rattle.job.proofs.Job.after.Statement.{statement}
 use Rattle.job.proofs.Job.after.Tie as tie

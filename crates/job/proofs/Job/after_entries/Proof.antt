@@ -5,7 +5,7 @@ use mathlib.Core.Bool.{true}
 use borrow.Author.Needs.{needs}
 use borrow.Author.Tests.{not-true, not-false}
 use Rattle.job.specs.Jobs.{runsWithin}
-use Rattle.job.proofs.Shapes.{fills-on, units-on}
+use Rattle.job.proofs.Rounds.{fills-on, units-on}
 use Rattle.job.proofs.Next.{runs-within, entries-never, entries-left, entries-few}
 use Rattle.job.proofs.Job.after_entries.Statement.{statement}
 use Rattle.job.proofs.Job.after_entries.Tie as tie

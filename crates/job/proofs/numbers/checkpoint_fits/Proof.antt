@@ -12,7 +12,8 @@ use Rattle.board.specs.Boards.{SizedBy}
 use Rattle.board.proofs.Answers.{let-through}
 use Rattle.board.proofs.Widths.{width-le}
 use Rattle.elimination.specs.Shape.{unitsFit, numbersFit}
-use Rattle.job.specs.Jobs.{kindNumber, halvesOf, kindDigits, shapeOf, ruleOf, checkpointFits}
+use Rattle.job_kind.specs.Kinds.{kindNumber, halvesOf, kindDigits, shapeOf}
+use Rattle.job.specs.Jobs.{ruleOf, checkpointFits}
 use Rattle.job.proofs.Fits.{Frame, frame-fits, frame-of}
 use Rattle.job.proofs.Checkpoints.{frame-misfits, shift-none, shift-some}
 use Rattle.job.proofs.numbers.checkpoint_fits.Statement.{statement}

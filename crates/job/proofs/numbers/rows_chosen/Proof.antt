@@ -6,7 +6,7 @@ use native.Mathlib.Omega.{arith}
 use borrow.Author.Tests.{eq-eqb, ne-eqb}
 use Rattle.elimination.specs.Shape.{Shape, rowsChosen}
 use Rattle.elimination.proofs.Shape.{Units, runs, ends, fails, units-at}
-use Rattle.job.proofs.Shapes.{rows-round}
+use Rattle.job.proofs.Rounds.{rows-round}
 use Rattle.job.proofs.numbers.rows_chosen.Statement.{statement}
 use Rattle.job.proofs.numbers.rows_chosen.Tie as tie
 

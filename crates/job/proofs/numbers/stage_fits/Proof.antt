@@ -2,7 +2,7 @@
 -- Assumes nothing.
 use mathlib.Core.Path.{sym}
 use borrow.Author.Needs.{needs}
-use Rattle.job.proofs.Shapes.{fills-left, chooses-left}
+use Rattle.job.proofs.Rounds.{fills-left, chooses-left}
 use Rattle.job.proofs.numbers.stage_fits.Statement.{statement}
 use Rattle.job.proofs.numbers.stage_fits.Tie as tie
 

@@ -4,7 +4,7 @@ use mathlib.Core.Path.{_∙_}
 use borrow.Author.Needs.{needs}
 use borrow.Author.Tests.{ne-eqb}
 use Rattle.job.specs.Jobs.{stageOf}
-use Rattle.job.proofs.Shapes.{fills-left}
+use Rattle.job.proofs.Rounds.{fills-left}
 use Rattle.job.proofs.numbers.stage_of.Statement.{statement}
 use Rattle.job.proofs.numbers.stage_of.Tie as tie
 

@@ -7,8 +7,8 @@ use borrow.Author.Tests.{ne-eqb}
 use Rattle.board.specs.Checks.{tableSize}
 use Rattle.board.proofs.Powers.{table-le, table-within}
 use Rattle.elimination.specs.Shape.{unitsFit}
-use Rattle.job.specs.Jobs.{kindDigits}
-use Rattle.job.proofs.Shapes.{runs-same, ends-not, ends-same}
+use Rattle.job_kind.specs.Kinds.{kindDigits}
+use Rattle.job.proofs.Rounds.{runs-same, ends-not, ends-same}
 use Rattle.job.proofs.numbers.units_fit.Statement.{statement}
 use Rattle.job.proofs.numbers.units_fit.Tie as tie
 

@@ -6,7 +6,7 @@ use native.Mathlib.Nat.{one-mul, div-lt-iff-lt-mul}
 use native.Mathlib.Omega.{arith}
 use borrow.Author.Needs.{needs}
 use Rattle.board.proofs.Powers.{four-pos}
-use Rattle.job.specs.Jobs.{kindDigits}
+use Rattle.job_kind.specs.Kinds.{kindDigits}
 use Rattle.job.proofs.shape.fill_at.Statement.{statement}
 use Rattle.job.proofs.shape.fill_at.Tie as tie
 

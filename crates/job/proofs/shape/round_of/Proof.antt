@@ -4,10 +4,10 @@ use mathlib.Core.Path.{_≡_, refl}
 use Prim.Native.Nat.{ℕ, _+_, _-_, _≤_, _<_}
 use native.Mathlib.Numerals.{add-one}
 use native.Mathlib.Omega.{arith}
-use Rattle.job.specs.Jobs.{roundStart, roundWork}
+use Rattle.job_kind.specs.Kinds.{roundStart, roundWork}
 use Rattle.job.specs.Inner.{RoundIs}
-use Rattle.job.specs.declared.Kind.{Kind}
-use Rattle.job.proofs.Shapes.{shape-rounds}
+use Rattle.job_kind.specs.declared.Kind.{Kind}
+use Rattle.job_kind.proofs.Shapes.{shape-rounds}
 use Rattle.job.proofs.shape.round_of.Statement.{statement}
 use Rattle.job.proofs.shape.round_of.Tie as tie
 

@@ -3,7 +3,7 @@
 use native.Mathlib.Omega.{arith}
 use borrow.Author.Needs.{needs}
 use borrow.Author.Tests.{lt-ltb, le-ltb}
-use Rattle.job.proofs.Shapes.{fills-entry, chooses-row, rows-spent}
+use Rattle.job.proofs.Rounds.{fills-entry, chooses-row, rows-spent}
 use Rattle.job.proofs.shape.task_at.Statement.{statement}
 use Rattle.job.proofs.shape.task_at.Tie as tie
 

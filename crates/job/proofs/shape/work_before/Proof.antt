@@ -4,8 +4,8 @@ use mathlib.Core.Path.{_≡_, sym, _∙_}
 use mathlib.Core.Bool.{false}
 use native.Mathlib.Omega.{arith}
 use borrow.Author.Needs.{needs}
-use Rattle.job.specs.Jobs.{refills}
-use Rattle.job.proofs.Shapes.{work-again, work-first, work-later}
+use Rattle.job_kind.specs.Kinds.{refills}
+use Rattle.job_kind.proofs.Shapes.{work-again, work-first, work-later}
 use Rattle.job.proofs.shape.work_before.Statement.{statement}
 use Rattle.job.proofs.shape.work_before.Tie as tie
 

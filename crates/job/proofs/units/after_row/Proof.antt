@@ -10,7 +10,7 @@ use borrow.Author.Needs.{needs}
 use borrow.Author.Tests.{lt-ltb, le-ltb, le-leb, lt-leb}
 use lib.Dec.{ltb}
 use Rattle.board.proofs.Widths.{width-le}
-use Rattle.job.specs.Jobs.{kindDigits}
+use Rattle.job_kind.specs.Kinds.{kindDigits}
 use Rattle.job.proofs.Checkpoints.{shift-none, shift-some}
 use Rattle.job.proofs.Next.{units-few}
 use Rattle.job.proofs.units.after_row.Statement.{statement}

@@ -4,7 +4,7 @@ use mathlib.Core.Path.{_≡_, sym, _∙_}
 use borrow.Author.Needs.{needs}
 use borrow.Author.Tests.{le-leb, lt-leb, not-true, not-false}
 use Rattle.board.specs.Boards.{widthFits}
-use Rattle.job.specs.Jobs.{halvesOf}
+use Rattle.job_kind.specs.Kinds.{halvesOf}
 use Rattle.job.proofs.units.is_running.Statement.{statement}
 use Rattle.job.proofs.units.is_running.Tie as tie
 

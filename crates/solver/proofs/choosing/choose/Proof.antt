@@ -14,9 +14,9 @@ use Rattle.board_rows.proofs.Writing.{writes-inside}
 use Rattle.score_table.proofs.Entries.{row-room}
 use Rattle.score_table.proofs.Calls.{picked-nothing, picked-row}
 use Rattle.job.proofs.Next.{fits-rows}
-use Rattle.solver.specs.Units.{wantBy, gridRows}
-use Rattle.solver.proofs.UnitLaws.{lent-memory, row-in}
-use Rattle.solver.proofs.Agreement.{picked}
+use Rattle.third_demand.specs.Units.{wantBy, gridRows}
+use Rattle.third_demand.proofs.UnitLaws.{lent-memory, row-in}
+use Rattle.third_demand.proofs.Agreement.{picked}
 use Rattle.solver.proofs.Steps.{moves-row, moves-none, moves-spoiled}
 use Rattle.solver.proofs.choosing.choose.Statement.{statement}
 use Rattle.solver.proofs.choosing.choose.Tie as tie

@@ -9,11 +9,12 @@ use lib.Dec.{eqb}
 use lib.ListN.{length}
 use Rattle.board.specs.Answers.{passed}
 use Rattle.board.proofs.Answers.{turned-away, let-through}
-use Rattle.job.specs.Jobs.{jobFits, readCheck, pausedSays}
+use Rattle.job.specs.Jobs.{jobFits, pausedSays}
+use Rattle.job_kind.specs.Kinds.{readCheck}
 use Rattle.job.proofs.Fits.{paused-numbers}
 use Rattle.service.specs.Service.{workCheck}
-use Rattle.solver.specs.Working.{lentCheck}
-use Rattle.solver.proofs.CheckLaws.{pause-refused}
+use Rattle.third_demand.specs.Units.{lentCheck}
+use Rattle.third_demand.proofs.CheckLaws.{pause-refused}
 use Rattle.solver.proofs.working.check_work.Statement.{statement}
 use Rattle.solver.proofs.working.check_work.Tie as tie
 

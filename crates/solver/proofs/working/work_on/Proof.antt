@@ -7,14 +7,15 @@ use Prim.Native.Nat.{_+_, _^_, _≤_, _<_}
 use lib.ListN.{length}
 use native.Mathlib.Omega.{arith}
 use Rattle.rule.specs.Rule.{Holds, nextUnder}
-use Rattle.job.specs.Jobs.{kindDigits, taskOf}
+use Rattle.job_kind.specs.Kinds.{kindDigits}
+use Rattle.job.specs.Jobs.{taskOf}
 use Rattle.elimination.specs.Task.{fill}
 use Rattle.job.proofs.Next.{Due, due-at}
 use Rattle.service.specs.Service.{worksOn}
-use Rattle.solver.specs.Units.{grid}
-use Rattle.solver.specs.Inner.{Lent, lentState}
-use Rattle.solver.proofs.UnitLaws.{lent-entry, lent-read}
-use Rattle.solver.proofs.Agreement.{filled}
+use Rattle.third_demand.specs.Units.{grid}
+use Rattle.third_demand.specs.Lent.{Lent, lentState}
+use Rattle.third_demand.proofs.UnitLaws.{lent-entry, lent-read}
+use Rattle.third_demand.proofs.Agreement.{filled}
 use Rattle.solver.proofs.Steps.{onward-filled, onward-moved, works-turned, works-spent, works-over}
 use borrow.Author.Needs.{needs}
 use Rattle.solver.proofs.working.work_on.Statement.{statement}

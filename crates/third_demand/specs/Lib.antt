@@ -1,0 +1,5 @@
+pub mod Grid
+pub mod Units
+pub mod Lent
+pub mod Demand
+pub mod Theorems
