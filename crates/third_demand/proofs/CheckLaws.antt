@@ -4,7 +4,7 @@ use mathlib.Core.Path.{_≡_}
 use mathlib.Core.List.{List}
 use Prim.Native.Nat.{ℕ, _*_, _≤_}
 use native.Mathlib.Omega.{arith}
-use borrow.Author.Tests.{eq-eqb, eqb-true, le-leb, leb-true}
+use borrow.Author.Tests.{eq-eqb, eqb-true, le-leb, leb-true, lt-leb, ne-eqb}
 use lib.Dec.{leb, eqb}
 use lib.ListN.{length}
 use Rattle.board.specs.Answers.{Answer, gives, refuses, _then_, Checked}
@@ -63,11 +63,13 @@ module _ (j : Job) (g t β : List ℕ) where
   lent-target e =
       target-cells (j .kind) (j .rule) (j .width) (j .height) g (then-gives (readCheck (j .kind) (j .rule) (j .width) (j .height) g) (cellsCheck then entriesCheck) e .0 .1)
 
-  -- and they pass and refuse exactly by these
+  -- and all their answers
   pub lent-checks : LentChecks j g t β
   unfolding lentCheck
   lent-checks = record {
-    first = λ e. rw e;
+    reads = λ e. rw e;
+    cells = λ e n. rw (e, ne-eqb (length β) (j .width * j .height) n);
+    entries = λ e b l. rw (e, eq-eqb (length β) (j .width * j .height) b, lt-leb (tableSize (kindDigits (j .kind) (j .width)) (layersOf (j .kind) (j .height))) (length t) l);
     passes = λ e b l. rw (e, eq-eqb (length β) (j .width * j .height) b, le-leb (tableSize (kindDigits (j .kind) (j .width)) (layersOf (j .kind) (j .height))) (length t) l);
   }
 

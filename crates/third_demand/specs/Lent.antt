@@ -2,8 +2,8 @@
 -- Assumes nothing.
 use mathlib.Core.Path.{_≡_}
 use mathlib.Core.Bool.{true}
-use mathlib.Core.List.{List}
-use Prim.Native.Nat.{ℕ, _*_, _≤_}
+use mathlib.Core.List.{List, []}
+use Prim.Native.Nat.{ℕ, _*_, _≤_, _<_}
 use lib.ListN.{length}
 use Rattle.board.specs.Answers.{passed, refuses}
 use Rattle.board.specs.Checks.{tableSize}
@@ -29,10 +29,14 @@ pub record Chooses (j : Job) (r source : ℕ) (givens table board : List ℕ) : 
   pub running : markOf (j .stage) ≡ 0
   pub task : shapeOf (j .kind) (j .width) (j .height) .plan (j .units) ≡ row r source
 
--- Working's checks are those of opening, and then 5 and 6: where what is read is refused, they refuse it alike; and they pass where it passes, the board
--- has w × h cells, and the table has room for the layers of the job's kind.
+-- Working's checks after 7 are opening's of what is read, then 5, then 6, so these are all their answers: where what is read is refused, it is refused
+-- alike; then 5 where the board hasn't w × h cells; then 6 where the table hasn't room for the layers of the job's kind; else they pass.
 pub record LentChecks (j : Job) (givens table board : List ℕ) : Type 0 where
-  pub first : {n : ℕ} {values : List ℕ} → readCheck (j .kind) (j .rule) (j .width) (j .height) givens ≡ refuses n values → lentCheck j givens table board ≡ refuses n values
+  pub reads : {n : ℕ} {values : List ℕ} → readCheck (j .kind) (j .rule) (j .width) (j .height) givens ≡ refuses n values → lentCheck j givens table board ≡ refuses n values
+  pub cells : readCheck (j .kind) (j .rule) (j .width) (j .height) givens ≡ passed → (length board ≡ j .width * j .height → ⊥) → lentCheck j givens table board ≡ refuses 5 []
+  pub entries : readCheck (j .kind) (j .rule) (j .width) (j .height) givens ≡ passed
+      → length board ≡ j .width * j .height → length table < tableSize (kindDigits (j .kind) (j .width)) (layersOf (j .kind) (j .height))
+      → lentCheck j givens table board ≡ refuses 6 []
   pub passes : readCheck (j .kind) (j .rule) (j .width) (j .height) givens ≡ passed
       → length board ≡ j .width * j .height → tableSize (kindDigits (j .kind) (j .width)) (layersOf (j .kind) (j .height)) ≤ length table
       → lentCheck j givens table board ≡ passed
