@@ -1,4 +1,6 @@
 // What every call on a board shares: the refusals, and the checks of a size, a board, a grid of givens, a target and a table.
+#![tactic(auto)]
+
 ghost use Rattle.std.specs.Prelude.{◌≡◌, ◌*◌, eqb, length};
 ghost use Rattle.board.specs.Answers.{number_of, check_says, place_of};
 ghost use Rattle.board.specs.Boards.{among, row_digits, width_fits, byte_at};

@@ -1,4 +1,6 @@
 // Rows of a board: a row's cells go from its number straight into the board that is lent, and stand as bytes nowhere else.
+#![tactic(auto)]
+
 ghost use Rattle.std.specs.Prelude.{◌≡◌, ◌+◌, ◌≤◌, length};
 ghost use Rattle.life.specs.Rows.{digit_at};
 ghost use Rattle.board_rows.specs.Rows.{row_cell, written};

@@ -1,5 +1,7 @@
 // Tries the writing of rows into a board: every number of up to ten binary digits, into rows of a cell and of two cells for each digit, within the
 // board and past it, against cells that are found by halving. Prints what was tried.
+#![tactic(auto)]
+
 use std::num;
 
 mod plain;

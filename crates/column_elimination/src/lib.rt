@@ -1,1 +1,3 @@
 // Column elimination for eight rows at once: definitions in specs/, laws in proofs/, no code.
+
+#![tactic(auto)]

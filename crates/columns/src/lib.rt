@@ -1,5 +1,7 @@
 // One column of column elimination, for eight rows b at once and all rows a together: its masks, and the step from one vector of numbers to the
 // next. 0 stands for no number, and the greater wins.
+#![tactic(auto)]
+
 ghost use Rattle.std.specs.Prelude.{◌≡◌, ◌+◌, ◌*◌, ◌-◌, ◌<◌, ◌≤◌, ◌^◌, ◌/◌, ◌%◌, get_or};
 ghost use Rattle.std.specs.Int.Bits.{bit_and};
 ghost use Rattle.board.specs.Boards.{max_width};

@@ -1,5 +1,7 @@
 // The duel page's game: two players fill a free grid of at most 16 cells in reading order, taking turns, and the finished board is worth
 // the number of its cells that the next step leaves as they are. The first wants the most, the second the least.
+#![tactic(auto)]
+
 use board::{Check, Refusal};
 
 mod turns;

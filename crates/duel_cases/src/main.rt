@@ -1,4 +1,6 @@
 // Tries the duel: every size of at most 16 cells against a plain play-out of all finished boards, then sizes that are refused. Prints what was tried.
+#![tactic(auto)]
+
 use duel::Outcome;
 use plain::Played;
 use std::num;

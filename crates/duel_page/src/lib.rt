@@ -1,4 +1,6 @@
 // What the duel page's program prints: a board as text in, of which only the size counts; the duel's worth and a first move out.
+#![tactic(auto)]
+
 ghost use Rattle.std.specs.Prelude.{◌≡◌, true, length, ◌≤◌, ◌<◌};
 ghost use Rattle.program.specs.Printing.{Prints};
 ghost use Rattle.writer.specs.Letters.{letter_of};

@@ -1,4 +1,6 @@
 // The duel page's program: a board as text on standard input, of which only the size counts; the duel's worth and a first move on standard output.
+#![tactic(auto)]
+
 ghost use Rattle.std.specs.Prelude.{◌≡◌, true, length};
 ghost use Rattle.program.specs.Sizes.{text_room};
 ghost use Rattle.program.specs.Texts.{AnswersRead};

@@ -1,5 +1,7 @@
 // Edge threes: three cells given live in a line along an edge of a grid. Under a rule with birth on 3 the dead cell outside, beside the middle one,
 // is born, so no still board keeps them, and a job turns such a grid away.
+#![tactic(auto)]
+
 ghost use Rattle.std.specs.Prelude.{◌≡◌, ◌&&◌, ◌+◌, ◌<◌, length};
 ghost use Rattle.board.specs.Answers.{check_says};
 ghost use Rattle.edges.specs.Edges.{given_live_at, at_edge, edge_three, edge_check};

@@ -1,1 +1,3 @@
 // Row elimination over any kind of job: definitions in specs/, laws in proofs/, no code.
+
+#![tactic(auto)]

@@ -1,4 +1,6 @@
 // The calls of a job in a row: open, work, pause, resume, work on. README.md shows it.
+#![tactic(auto)]
+
 use job::{Checkpoint, Job, JobResult, Paused};
 use job_kind::Kind;
 use solver::Status;

@@ -1,5 +1,7 @@
 // A job of the solver as numbers: opened, paused into ten numbers and resumed from them, and handed on from unit to unit. The work that a unit
 // does on the table and the board is crate `solver`'s.
+#![tactic(auto)]
+
 use board::{Check, Refusal};
 use job_kind::Kind;
 use rule::Rule;

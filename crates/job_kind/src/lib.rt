@@ -1,4 +1,6 @@
 // The kinds of job: each kind's number, how it holds rows and its table's layers, and the checks of what it is lent to be read.
+#![tactic(auto)]
+
 ghost use Rattle.std.specs.Prelude.{◌≡◌};
 ghost use Rattle.board.specs.Answers.{check_says};
 ghost use Rattle.job_kind.specs.Kinds.{kind_number, halves_of, refills, has_target, kind_digits, layers_of, read_check};

@@ -1,5 +1,7 @@
 // The filling of entries of the score table: a whole layer at once by column elimination, and entries of a part of a layer one after the other. Either
 // way they are the entries that `score_table::fill` writes.
+#![tactic(auto)]
+
 mod layer;
 
 ghost use Rattle.std.specs.Prelude.{◌≡◌, false, ◌≤◌};

@@ -1,5 +1,7 @@
 // Tries the filling of the score table by layers against the filling entry by entry or a plain search, and the choice of rows against that search:
 // pseudo-random calls over leftovers, and every place of the table compared. Prints what was tried.
+#![tactic(auto)]
+
 mod calls;
 mod fills;
 mod memory;

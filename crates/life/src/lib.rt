@@ -1,4 +1,6 @@
 // Life and its like: one step of a board under a rule, ring included, and whether a board is a still life.
+#![tactic(auto)]
+
 use board::{Check, Refusal};
 use rule::Rule;
 

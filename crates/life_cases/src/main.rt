@@ -1,5 +1,7 @@
 // Tries the step, the judge and the generator: known boards, refusals, and boards of every size and other rules against a plain
 // count of neighbours. Prints what was tried.
+#![tactic(auto)]
+
 use life::Verdict;
 use rule::Rule;
 

@@ -1,4 +1,6 @@
 // Mirror boards: boards that equal their own left-right reflection. A grid whose marks don't is lopsided, and a job of mirror boards turns it away.
+#![tactic(auto)]
+
 ghost use Rattle.std.specs.Prelude.{◌≡◌};
 ghost use Rattle.board.specs.Answers.{check_says};
 ghost use Rattle.mirror.specs.Mirror.{lopsided_check};

@@ -1,5 +1,7 @@
 // Tries jobs of mirror boards: every small grid against plain enumeration, the same in random pieces, other rules, forged numbers, and free squares.
 // Prints what was tried.
+#![tactic(auto)]
+
 mod calls;
 mod edges;
 mod forged;

@@ -1,5 +1,7 @@
 // Text in: boards in the plaintext form, rows of `.` and `O`, each ended by LF, and comments, which start with `!`. Any input is taken or
 // refused; a refused call writes nothing. What `writer` writes from a board is read back as that board.
+#![tactic(auto)]
+
 ghost use Rattle.plaintext.specs.Reading.{ReadsText};
 
 use board::{Check, Refusal};

@@ -1,5 +1,7 @@
 // Tries text boards and prints what was tried: short texts against a second reader, boards of every size written and read back, the order
 // of the refusals, and a long text. What comes out otherwise than it should is counted as wrong.
+#![tactic(auto)]
+
 mod common;
 mod long;
 mod made;

@@ -1,5 +1,7 @@
 // Tries predecessor jobs: every small target against plain enumeration of boards, the same in random pieces, other rules, forged numbers, and targets
 // with known answers. Prints what was tried.
+#![tactic(auto)]
+
 mod calls;
 mod cells;
 mod forged;

@@ -1,4 +1,6 @@
 // What the programs share: the text that each takes, and the lines that each prints (`printing`).
+#![tactic(auto)]
+
 ghost use Rattle.std.specs.Prelude.{◌≡◌};
 ghost use Rattle.program.specs.Texts.{ReadsInput};
 

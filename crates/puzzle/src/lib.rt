@@ -1,4 +1,6 @@
 // What the program prints: a grid of givens as text in, its best still board as text out.
+#![tactic(auto)]
+
 ghost use Rattle.std.specs.Prelude.{◌≡◌, true, map, length};
 ghost use Rattle.board.specs.Boards.{Board};
 ghost use Rattle.puzzle.specs.Sizes.{output_room, program_sizes};

@@ -1,4 +1,6 @@
 // A reader of plaintext boards: the caller's bytes and the place in them where a text starts.
+#![tactic(auto)]
+
 ghost use Rattle.std.specs.Prelude.{◌≡◌};
 ghost use Rattle.plaintext.specs.Reading.{ReadsText};
 

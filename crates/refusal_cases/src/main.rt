@@ -1,6 +1,8 @@
 // Tries the refusals of opening, working, pausing and resuming: each once, and their order, for a call that breaks several rules answers the first.
 // Prints each answer, the job that a working call hands back, and how much it has written. Ordinary jobs come first, then those of two layers,
 // then those of mirror boards, then predecessor jobs.
+#![tactic(auto)]
+
 mod mirror_boards;
 mod numbers;
 mod openings;

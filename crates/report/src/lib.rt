@@ -1,4 +1,6 @@
 // Lines on standard output, for the programs.
+#![tactic(auto)]
+
 use board::{Check, Refusal};
 
 pub fn text(s: &[u8]) {

@@ -1,5 +1,7 @@
 // Life-like rules: the counts of live neighbours that give birth and let survive, the check of a rule, and Conway's own by its cases.
 // `table` has a rule's next states for the 512 patterns of 3 by 3 cells.
+#![tactic(auto)]
+
 use board::{Check, Refusal};
 
 pub mod table;

@@ -1,4 +1,6 @@
 // Runs a job to its end in one call, for callers that don't pause.
+#![tactic(auto)]
+
 ghost use Rattle.runner.specs.Solving.{Solves, Runs, Ready};
 
 use board::Refusal;

@@ -1,5 +1,7 @@
 // The score table of row elimination over a grid's rows: the filling of entries, and the choice of a row by what the table holds, by the numbers
 // of a task. Both take every input; the table of the 512 patterns says how cells change, and a want says which row is the best.
+#![tactic(auto)]
+
 mod best;
 mod filling;
 mod rows;

@@ -1,4 +1,6 @@
 // The setting room's program: a grid of givens as text on standard input, its best still board on standard output.
+#![tactic(auto)]
+
 ghost use Rattle.std.specs.Prelude.{◌≡◌, true, length};
 ghost use Rattle.puzzle.specs.Sizes.{text_room, program_sizes};
 ghost use Rattle.setter.specs.Run.{AnswersRead};

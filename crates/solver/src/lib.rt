@@ -1,6 +1,8 @@
 // A solver for still-life grids: under a rule the best still board that keeps the givens, or the best mirror board, by row elimination; and of a target
 // the board with the fewest live cells that steps to it. A job works in units, may stop after any of them, be paused into ten numbers and resumed from
 // them, over any leftovers in the lent memory.
+#![tactic(auto)]
+
 use board::{Check, Refusal};
 use job::Job;
 

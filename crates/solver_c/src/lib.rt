@@ -1,4 +1,6 @@
 // The solver for C: a job in working calls.
+#![tactic(auto)]
+
 ghost use Rattle.std.specs.Prelude.{◌≡◌};
 ghost use Rattle.solver.specs.Working.{status_says};
 ghost use Rattle.solver_c.specs.InCalls.{code_of, WorksInCalls, MakesCalls};

@@ -1,6 +1,8 @@
 // Tries the solver by ordinary jobs and by those of two layers: every small grid against plain enumeration, the same in random pieces, other rules,
 // edge threes, forged jobs, numbers that resuming and pausing take, and lengths at the limits; of predecessor jobs these numbers and lengths alone.
 // Prints what was tried. Crate mirror_cases has the jobs of mirror boards, and predecessor_cases the predecessor jobs.
+#![tactic(auto)]
+
 mod calls;
 mod edges;
 mod forged;

@@ -1,5 +1,7 @@
 // The best still boards of the free squares of side 3 to 10: their scores, the units done, and that each is still. Sides 3 to 9 are solved by both
 // kinds of job, and the boards compared; side 10 by two layers only, since its whole table is more than a program's stack holds.
+#![tactic(auto)]
+
 ghost use Rattle.std.specs.Prelude.{◌≤◌};
 
 use job::{Job, JobResult, Paused, Stage};

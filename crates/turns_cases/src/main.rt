@@ -1,5 +1,7 @@
 // Tries what turning a grid changes: all eight turns of grids with givens, each solved by either kind of job, whole or in pieces, against the grid
 // as it was; and turning twice. Prints what was tried.
+#![tactic(auto)]
+
 mod answers;
 mod cells;
 mod grids;

@@ -1,5 +1,7 @@
 // Text out: a board in the plaintext form, rows of `.` and `O`, each ended by LF. Any input is taken or refused; a refused call writes
 // nothing.
+#![tactic(auto)]
+
 ghost use Rattle.writer.specs.Writing.{WritesText};
 
 use board::{Check, Refusal};

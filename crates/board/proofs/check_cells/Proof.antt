@@ -13,42 +13,33 @@ use Rattle.board.proofs.check_cells.Statement.{statement}
 use Rattle.board.proofs.check_cells.Tie as tie
 
 -- past the first test the length is right
-long : (c : tie.Else1) → let g = c.before.before.before.args in eqb (length g.cells.now) (g.w * g.h) ≡ true
-long c = sym c.before.has-length.ensures ∙ not-false _ c.if1.false
+long : (c : tie.Else-not-has_length) → let g = c.args in eqb (length g.cells.now) (g.w * g.h) ≡ true
+long c = sym c.has_length.ensures ∙ c.if-not-has_length.false
 
-has-length-requires : tie.Need-has-length-requires
-has-length-requires c κs = search rules
+has_length-requires : tie.Need-has_length-requires
+has_length-requires c κs = search rules
 
-returns : tie.Need-returns
+returns-then-not-has_length : tie.Need-returns-then-not-has_length
 unfolding cells_check
-returns c = simp (sym c.before.has-length.ensures ∙ not-true _ c.if1.true)
+returns-then-not-has_length c = simp (sym c.has_length.ensures ∙ c.if-not-has_length.true)
 
-first-above-requires : tie.Need-first-above-requires
-first-above-requires c κs = search rules
+first_above-requires : tie.Need-first_above-requires
+first_above-requires c κs = search rules
 
-enum-known-i : tie.Need-enum-known-i
-enum-known-i c = search rules
+enum_known-i : tie.Need-enum_known-i
+enum_known-i c = search rules
 
-enum_told : tie.Need-enum-told
-enum_told c = search rules
+enum_told-1 : tie.Need-enum_told-1
+enum_told-1 c = search rules
 
-returns-2 : tie.Need-returns-2
+returns-in-At : tie.Need-returns-in-At
 unfolding cells_check
-returns-2 c =
-    simp (long c.before.before.before.before, sym c.before.before.before.first_above.ensures ∙ ap place_of c.before.i.given.1)
+returns-in-At c =
+    simp (long c.before.before, sym c.first_above.ensures ∙ ap place_of c.in-At.is)
 
-returns-3 : tie.Need-returns-3
+returns-in-Nowhere : tie.Need-returns-in-Nowhere
 unfolding cells_check
-returns-3 c = simp (long c.before.before.before, sym c.before.before.first_above.ensures ∙ ap place_of c.enum_told.given.1)
+returns-in-Nowhere c = simp (long c.before.before, sym c.first_above.ensures ∙ ap place_of c.in-Nowhere.is)
 
-pub check-cells-spec : {M : Type 1} → statement M
-check-cells-spec =
-    tie.close
-    (tie.spec
-    has-length-requires
-    returns
-    first-above-requires
-    enum-known-i
-    enum_told
-    returns-2
-    returns-3)
+pub check_cells_spec : {M : Type 1} → statement M
+check_cells_spec = tie.close (tie.spec has_length-requires returns-then-not-has_length first_above-requires enum_known-i enum_told-1 returns-in-At returns-in-Nowhere)

@@ -8,8 +8,7 @@ use native.Mathlib.Omega.{arith}
 use borrow.Author.Rules.{rules}
 use borrow.Author.Tests.{eq-eqb, ne_eqb, eqb-true, eqb-false}
 use lib.Dec.{eqb}
-use Rattle.board.proofs.has_length.Statement.{statement}
-use Rattle.board.proofs.has_length.Tie as tie
+use Rattle.board.proofs.has_length.Goals as goal
 
 rest_none : (n w h : ℕ) → n ≡ w * h → n % w ≡ 0
 rest_none n w h e = rw e (mul-mod_right w h)
@@ -23,20 +22,11 @@ times n w h p e = go (eqb (n / w) h) refl
         sym (eq-eqb n (w * h) (sym (rw (eqb-true (n / w) h q) at f)))
     go false q = sym (ne_eqb n (w * h) (λ f. eqb-false (n / w) h q (rw f (mul-div_right h p))))
 
-returns : tie.Need-returns
-returns c = simp (c.if1.true, zero-mul)
+pub returns-then-w-eq0 : goal.returns-then-w-eq0
+returns-then-w-eq0 c = simp (c.if-w-eq0.true, zero-mul)
 
-rem-if2 : tie.Need-nonzero-rem-if2
-rem-if2 c = search rules
+pub returns-then-n-w-ne0 : goal.returns-then-n-w-ne0
+returns-then-n-w-ne0 c = sym (ne_eqb _ _ (λ e. c.if-n-w-ne0.true (rest_none _ _ _ e)))
 
-returns-2 : tie.Need-returns-2
-returns-2 c = sym (ne_eqb _ _ (λ e. c.if2.true (rest_none _ _ _ e)))
-
-div-result : tie.Need-nonzero-div-result
-div-result c = search rules
-
-returns-3 : tie.Need-returns-3
-returns-3 c = times _ _ _ (search rules) c.if2.false
-
-pub has-length-spec : {M : Type 1} → statement M
-has-length-spec = tie.close (tie.spec returns rem-if2 returns-2 div-result returns-3)
+pub returns : goal.returns
+returns c = times _ _ _ (search rules) c.if-n-w-ne0.false
