@@ -8,7 +8,7 @@ ghost use Rattle.board.specs.Checks.{width_check, height_check, size_check, cell
 ghost use Rattle.board.specs.Search.{first_not};
 
 // Why a call is turned away, in the order of the documents' numbers, with the first wrong place where they give one.
-#[derive(Drop)]
+#[derive(Clone, Copy)]
 pub enum Refusal {
     Width,
     Height,
@@ -28,7 +28,7 @@ pub enum Refusal {
 }
 
 // What a check comes to.
-#[derive(Drop)]
+#[derive(Clone, Copy)]
 pub enum Check {
     Passed,
     Refused(Refusal),
@@ -252,7 +252,7 @@ fn is_among(limit: usize, i: usize) -> bool
     i <= limit
 }
 
-#[derive(Drop)]
+#[derive(Clone, Copy)]
 enum Place {
     Nowhere,
     At(usize),

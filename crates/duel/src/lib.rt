@@ -13,7 +13,7 @@ ghost use Rattle.duel.specs.Calls.{duel_says, duel_check, duel_rule};
 
 // What a duel comes to: the worth that the first player can force and the second can hold to, and whether the first cell of a plan
 // that forces it is live: dead where both are.
-#[derive(Drop)]
+#[derive(Clone, Copy)]
 pub enum Outcome {
     Worth { worth: usize, live: bool },
     Refused(Refusal),

@@ -11,7 +11,7 @@ const ACROSS: usize = 12;
 const PADDED: usize = 18 * ACROSS;
 
 // What a duel comes to: its worth, and whether the first cell is live.
-#[derive(Drop)]
+#[derive(Clone, Copy)]
 pub struct Played {
     pub worth: usize,
     pub live: bool,

@@ -81,7 +81,7 @@ module _ {S : Type 0} (M : Machine S) where
     unfolding advance
     runs_done {s} r zero l = omega arith
     runs_done here (suc p) l = absurd (not-suc-le-zero l)
-    runs_done (more e d r) (suc p) l = runs_done r p (le_of_suc-le-suc l) ∙ omega arith
+    runs_done {s = s} (more {m = m} e d r) (suc p) l = runs_done {s = M.unit s} r p (le_of_suc-le-suc l) ∙ omega arith
 
     -- a machine that runs from unit 0 to a state where it stays comes to it
     pub runs_come : {s : S} {m : ℕ} → Runs s' s m → M.done s ≡ 0 → M.ended s' ≡ true → M.unit s' ≡ s' → ComesTo M s s' m
@@ -99,6 +99,6 @@ module _ {S : Type 0} (M : Machine S) where
   pub runs_more : {s' s₁ : S} {m : ℕ} (s : S) → M.unit s ≡ s₁ → M.ended s ≡ false → M.done s₁ ≡ suc (M.done s) → Runs s' s₁ m → Runs s' s (suc m)
   runs_more {m} s e n d r = more {m = m} n (rw e d) (rw e r)
 
-  pub runs_add : {s t u : S} {m p : ℕ} → Runs t s m → Runs u t p → Runs u s (m + p)
+  pub runs_add : {t s u : S} {m p : ℕ} → Runs t s m → Runs u t p → Runs u s (m + p)
   runs_add {p} here q = rw zero-add q
   runs_add {p} (more {m = m} e d r) q = rw suc-add (more e d (runs_add r q))

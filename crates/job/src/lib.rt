@@ -15,7 +15,7 @@ ghost use Rattle.job.specs.Jobs.{numbers_of, task_due, task_of, after_unit, afte
 ghost use Rattle.job.specs.Calls.{Opens, Pauses, Resumes};
 
 // What a job does next, with that stage's numbers: the last two rows chosen, and the live cells so far that were free, with a target all live cells.
-#[derive(Drop)]
+#[derive(Clone, Copy)]
 pub enum Stage {
     Filling {
         above: usize,
@@ -37,7 +37,7 @@ pub enum Stage {
 }
 
 // A job: its kind, its rule, its grid's width and height, the units done, and its stage.
-#[derive(Drop)]
+#[derive(Clone, Copy)]
 pub struct Job {
     pub kind: Kind,
     pub rule: Rule,
@@ -48,7 +48,7 @@ pub struct Job {
 }
 
 // The ten numbers of a paused job: 0 running, 1 finished, 2 infeasible is its mark, then its rule, and its kind's number.
-#[derive(Drop)]
+#[derive(Clone, Copy)]
 pub struct Checkpoint {
     pub width: usize,
     pub height: usize,
@@ -63,20 +63,20 @@ pub struct Checkpoint {
 }
 
 // What opening and resuming hand out.
-#[derive(Drop)]
+#[derive(Clone, Copy)]
 pub enum JobResult {
     Ready(Job),
     Refused(Refusal),
 }
 
-#[derive(Drop)]
+#[derive(Clone, Copy)]
 pub enum Paused {
     Numbers(Checkpoint),
     Refused(Refusal),
 }
 
 // What the next unit of a job is to do.
-#[derive(Drop)]
+#[derive(Clone, Copy)]
 pub enum Task {
     // Fill an entry of the layer that starts at `target` and has `after` rows after it, by the layer that starts at `source`.
     Fill {
@@ -94,7 +94,7 @@ pub enum Task {
 }
 
 // What a unit that chooses comes to.
-#[derive(Drop)]
+#[derive(Clone, Copy)]
 pub enum Chosen {
     // A row, and what it earns.
     Row { row: usize, worth: usize },

@@ -134,7 +134,7 @@ pub fn job_fits(job: Job) -> bool
 }
 
 // The numbers that a stage carries.
-#[derive(Drop)]
+#[derive(Clone, Copy)]
 pub struct Kept {
     pub above: usize,
     pub last: usize,

@@ -11,7 +11,7 @@ use crate::Task;
 use job_kind::Kind;
 
 // The round of a unit: the rows chosen before it, its place in the round, and the entries that are left to fill in the round, its own counted.
-#[derive(Drop)]
+#[derive(Clone, Copy)]
 pub struct Round {
     pub rows: usize,
     pub place: usize,

@@ -9,7 +9,7 @@ use board::Check;
 use rule::Rule;
 
 // The kinds of job. The first two come to the same board; they differ in the table that they take, and in their length.
-#[derive(Drop)]
+#[derive(Clone, Copy)]
 pub enum Kind {
     // The whole table is filled, h layers, and then the rows are chosen.
     Ordinary,

@@ -3,7 +3,7 @@ use crate::{memory, random};
 use score_table::Want;
 use std::num;
 
-#[derive(Drop)]
+#[derive(Clone, Copy)]
 pub enum Group {
     // Whole layers apart from the ones that they read, by Conway's table of patterns, other rules' and no rule's.
     Conway,
@@ -25,7 +25,7 @@ pub enum Group {
     Targets,
 }
 
-#[derive(Drop)]
+#[derive(Clone, Copy)]
 pub struct Call {
     pub want: Want,
     pub w: usize,

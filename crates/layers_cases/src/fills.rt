@@ -9,7 +9,7 @@ use score_table::Picked;
 use std::num;
 
 // What was tried of a group of calls.
-#[derive(Drop)]
+#[derive(Clone, Copy)]
 struct Tally {
     calls: usize,
     changed: usize,

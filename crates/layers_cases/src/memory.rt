@@ -3,7 +3,7 @@ use crate::random;
 use rule::Rule;
 
 // What pseudo-random bytes are for.
-#[derive(Drop)]
+#[derive(Clone, Copy)]
 pub enum Bytes {
     Givens,
     Patterns,

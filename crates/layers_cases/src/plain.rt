@@ -7,7 +7,7 @@ use rule::Rule;
 use score_table::Want;
 use std::num;
 
-#[derive(Drop)]
+#[derive(Clone, Copy)]
 pub enum Found {
     Nothing,
     // The row's number, what the row earns, and that with the number read.

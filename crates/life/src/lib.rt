@@ -11,7 +11,7 @@ ghost use Rattle.board.specs.Answers.{check_says};
 ghost use Rattle.life.specs.Calls.{verdict_says, life_check, judge_rule, step_rule, step_writes};
 
 // What judging finds; a cell's row and column count the ring.
-#[derive(Drop)]
+#[derive(Clone, Copy)]
 pub enum Verdict {
     Still,
     Changes { row: usize, column: usize },

@@ -6,14 +6,14 @@ use rule::Rule;
 use std::num;
 
 // A rule: for each count of live neighbours, 0 to 9, 1 where it is a birth count and where it is a survival count.
-#[derive(Drop)]
+#[derive(Clone, Copy)]
 pub struct Counts {
     pub births: [u8; 10],
     pub survivals: [u8; 10],
 }
 
 // A rule, and the seed for the next.
-#[derive(Drop)]
+#[derive(Clone, Copy)]
 pub struct Random {
     pub counts: Counts,
     pub seed: u64,

@@ -11,7 +11,7 @@ use solver::Status;
 use std::num;
 
 // What was tried of forged jobs.
-#[derive(Drop)]
+#[derive(Clone, Copy)]
 struct Tally {
     // The stages that the jobs are resumed in.
     filling: usize,
@@ -27,7 +27,7 @@ struct Tally {
 }
 
 // A job of the library, and its numbers in the second implementation, between two calls; the memory is the same for both.
-#[derive(Drop)]
+#[derive(Clone, Copy)]
 struct Pair {
     job: Job,
     numbers: Checkpoint,

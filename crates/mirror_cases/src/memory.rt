@@ -8,7 +8,7 @@ pub const ENTRIES: usize = 272;
 
 pub const CELLS: usize = 128;
 
-#[derive(Drop)]
+#[derive(Clone, Copy)]
 pub struct Memory {
     pub table: [u16; ENTRIES],
     pub board: [u8; CELLS],

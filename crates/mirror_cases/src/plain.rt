@@ -157,7 +157,7 @@ pub fn whole(w: usize, half: usize) -> usize {
 }
 
 // What enumeration finds.
-#[derive(Drop)]
+#[derive(Clone, Copy)]
 pub struct Best {
     pub found: bool,
     pub score: usize,
@@ -210,7 +210,7 @@ pub fn written(s: Size, best: Best) -> usize {
 }
 
 // The cells of a row or a board that are free, given dead and given live, each as the digits of a number.
-#[derive(Drop)]
+#[derive(Clone, Copy)]
 pub struct Masks {
     free: usize,
     dead: usize,

@@ -12,7 +12,7 @@ mod rows;
 mod scan;
 
 // What reading a text answers: the size of the board.
-#[derive(Drop)]
+#[derive(Clone, Copy)]
 pub enum Read {
     Board { width: usize, height: usize },
     Refused(Refusal),

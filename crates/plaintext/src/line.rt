@@ -5,7 +5,7 @@ ghost use Rattle.plaintext.specs.Reading.{is_comment, without_cR, letter_at, jud
 ghost use Rattle.plaintext.specs.Scanning.{first_not_or, no_lFAt, line_between, EndsAt, line_kind};
 
 // A comment; a row of so many letters; or a byte that isn't allowed, at a place of the text.
-#[derive(Drop)]
+#[derive(Clone, Copy)]
 pub enum Kind {
     Comment,
     Row(usize),

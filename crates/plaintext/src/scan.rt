@@ -6,7 +6,7 @@ ghost use Rattle.plaintext.specs.Scanning.{measure_of};
 use crate::line::Kind;
 use crate::{line, rows};
 
-#[derive(Drop)]
+#[derive(Clone, Copy)]
 pub enum Measured {
     Bad(usize),
     Size { width: usize, height: usize },

@@ -11,7 +11,7 @@ pub const LEFT: u8 = 9;
 pub const WRONG: usize = 13;
 
 // An answer: 0 or the number of a refusal, its place, and the width and height read or the length written.
-#[derive(Drop)]
+#[derive(Clone, Copy)]
 pub struct Outcome {
     pub number: usize,
     pub place: usize,

@@ -9,7 +9,7 @@ use solver::Status;
 use std::num;
 
 // How a run went: 1 for wrong where it differs from one run.
-#[derive(Drop)]
+#[derive(Clone, Copy)]
 pub struct Pieces {
     pub calls: usize,
     pub refused: usize,
@@ -21,7 +21,7 @@ pub struct Pieces {
 }
 
 // A run between two calls: the job, its memory, and the sum of the allowances.
-#[derive(Drop)]
+#[derive(Clone, Copy)]
 struct Turn {
     job: Job,
     memory: Memory,

@@ -55,7 +55,7 @@ fn next(rule: Rule, w: usize, h: usize, cells: &[u8], r: usize, c: usize) -> usi
 }
 
 // What a board steps to: its cells as digits, and the live cells of the ring.
-#[derive(Drop)]
+#[derive(Clone, Copy)]
 struct Stepped {
     cells: usize,
     ring: usize,
@@ -185,7 +185,7 @@ fn offer(firsts: &mut [usize], x: Stepped, number: usize) {
 }
 
 // What enumeration finds.
-#[derive(Drop)]
+#[derive(Clone, Copy)]
 pub struct Best {
     pub found: bool,
     // The live cells of the board.

@@ -8,7 +8,7 @@ use rule::Rule;
 use std::num;
 
 // What was tried of a group of targets.
-#[derive(Drop)]
+#[derive(Clone, Copy)]
 struct Counts {
     targets: usize,
     boards: usize,

@@ -6,7 +6,7 @@ use job::Job;
 use solver::Status;
 
 // A job after its calls, and the board; a byte that is not written is 9.
-#[derive(Drop)]
+#[derive(Clone, Copy)]
 pub struct Ended {
     pub job: Job,
     pub board: [u8; memory::CELLS],

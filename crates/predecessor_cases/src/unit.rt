@@ -8,7 +8,7 @@ use rule::Rule;
 use std::num;
 
 // A job's numbers, and the memory that its units left. The mark is 3 where no row could be chosen after row 1.
-#[derive(Drop)]
+#[derive(Clone, Copy)]
 pub struct Ran {
     pub numbers: Checkpoint,
     pub memory: Memory,
@@ -146,7 +146,7 @@ fn last_entry(rule: Rule, w: usize, a: usize, b: usize, t: usize) -> usize {
 }
 
 // The best row below two, and its live cells with its entry, 65,535 for none.
-#[derive(Drop)]
+#[derive(Clone, Copy)]
 struct Below {
     row: usize,
     sum: usize,

@@ -10,7 +10,7 @@ use std::num;
 const ENTRIES: usize = 131072;
 
 // What was tried.
-#[derive(Drop)]
+#[derive(Clone, Copy)]
 struct Tally {
     targets: usize,
     boards: usize,

@@ -4,7 +4,7 @@ ghost use Rattle.std.specs.Prelude.{◌≤◌};
 use std::num;
 
 // The letters after the first line, row r and column c from 1 at (r + 1) * 14 + c + 1, and whether there are h rows of w letters, each with LF.
-#[derive(Drop)]
+#[derive(Clone, Copy)]
 struct Plane {
     cells: [u8; 900],
     whole: bool,

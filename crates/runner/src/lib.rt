@@ -11,7 +11,7 @@ use solver::Status;
 
 // What the wanted board counts, or that there is none: the best board's score, or that no still board keeps the givens, of a mirror job no mirror board;
 // with a target the fewest live cells, or that no board steps to it.
-#[derive(Drop)]
+#[derive(Clone, Copy)]
 pub enum Solved {
     Best(usize),
     Infeasible,

@@ -12,7 +12,7 @@ ghost use Rattle.score_table.specs.Inner.{skip_to, choice_of, compared, kind_by,
 
 use crate::{Want, rows};
 
-#[derive(Drop)]
+#[derive(Clone, Copy)]
 pub enum Best {
     Nothing,
     // The row, and its worth with the number read for it.

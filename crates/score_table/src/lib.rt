@@ -18,7 +18,7 @@ use best::Best;
 pub const NONE: u16 = 65535;
 
 // Which of the rows that may stand somewhere is the best, by the sums of their worths and the numbers that the table has for them.
-#[derive(Drop)]
+#[derive(Clone, Copy)]
 pub struct Want {
     // The least sum is wanted, and not the greatest.
     pub least: bool,
@@ -33,7 +33,7 @@ pub struct Want {
 }
 
 // A row that is chosen, and its worth.
-#[derive(Drop)]
+#[derive(Clone, Copy)]
 pub enum Picked {
     Nothing,
     Row { row: usize, worth: usize },

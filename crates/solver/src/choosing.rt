@@ -8,7 +8,7 @@ use job::{Chosen, Job};
 use score_table::Picked;
 
 // What a unit that chooses comes to: the next job; or no row can be chosen after row 1.
-#[derive(Drop)]
+#[derive(Clone, Copy)]
 pub enum Stepped {
     Next(Job),
     Spoiled,

@@ -13,7 +13,7 @@ mod working;
 ghost use Rattle.solver.specs.Calls.{Works};
 
 // What a working call answers.
-#[derive(Drop)]
+#[derive(Clone, Copy)]
 pub enum Status {
     Unfinished,
     // The score: the live cells of the board that were free, with a target all its live cells.
@@ -23,7 +23,7 @@ pub enum Status {
 }
 
 // A working call's answer, always with the job.
-#[derive(Drop)]
+#[derive(Clone, Copy)]
 pub struct Worked {
     pub job: Job,
     pub status: Status,

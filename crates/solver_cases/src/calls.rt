@@ -13,7 +13,7 @@ use solver::{Status, Worked};
 use std::num;
 
 // How much of the memory a working call is lent: the first places of the givens, the table and the board.
-#[derive(Drop)]
+#[derive(Clone, Copy)]
 pub struct Lent {
     pub givens: usize,
     pub table: usize,
@@ -71,7 +71,7 @@ pub fn fresh(rule: Rule, s: Size) -> Job {
 }
 
 // A working call's answer, and the memory that it leaves.
-#[derive(Drop)]
+#[derive(Clone, Copy)]
 pub struct After {
     pub status: Status,
     pub job: Job,

@@ -7,7 +7,7 @@ use rule::Rule;
 use std::num;
 
 // What was tried of a group of grids.
-#[derive(Drop)]
+#[derive(Clone, Copy)]
 struct Tally {
     found: usize,
     wrong: usize,

@@ -11,7 +11,7 @@ use solver::Status;
 use std::num;
 
 // What was tried of a group of grids.
-#[derive(Drop)]
+#[derive(Clone, Copy)]
 struct Counts {
     grids: usize,
     boards: usize,
@@ -28,7 +28,7 @@ struct Counts {
 }
 
 // The runs of a group of grids by jobs of a kind.
-#[derive(Drop)]
+#[derive(Clone, Copy)]
 struct Runs {
     jobs: usize,
     wrong: usize,
@@ -41,7 +41,7 @@ struct Runs {
 }
 
 // A grid's runs by jobs of a kind: the answer and the memory of one run, whether they differ from enumeration, and how its pieces went.
-#[derive(Drop)]
+#[derive(Clone, Copy)]
 struct Run {
     status: Status,
     memory: Memory,

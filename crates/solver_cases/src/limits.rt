@@ -5,7 +5,7 @@ use job_kind::Kind;
 use std::num;
 
 // A kind and a size, and its jobs' lengths where a board exists and where none does.
-#[derive(Drop)]
+#[derive(Clone, Copy)]
 struct Ends {
     kind: Kind,
     w: usize,
@@ -15,7 +15,7 @@ struct Ends {
 }
 
 // What was tried.
-#[derive(Drop)]
+#[derive(Clone, Copy)]
 struct Tally {
     taken: usize,
     wrong: usize,

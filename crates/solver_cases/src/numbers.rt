@@ -7,7 +7,7 @@ use rule::Rule;
 use std::num;
 
 // What was tried.
-#[derive(Drop)]
+#[derive(Clone, Copy)]
 struct Tally {
     taken: usize,
     wrong: usize,
@@ -45,7 +45,7 @@ pub fn try_all() {
 }
 
 // What was tried of a kind.
-#[derive(Drop)]
+#[derive(Clone, Copy)]
 struct Tallies {
     resumed: Tally,
     paused: Tally,

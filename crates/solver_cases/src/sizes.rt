@@ -4,7 +4,7 @@ ghost use Rattle.std.specs.Prelude.{◌<◌};
 use job_kind::Kind;
 use std::num;
 
-#[derive(Drop)]
+#[derive(Clone, Copy)]
 pub struct Size {
     pub kind: Kind,
     pub w: usize,

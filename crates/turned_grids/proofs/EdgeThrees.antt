@@ -17,7 +17,7 @@ use Rattle.edges.specs.Edges.{given_live_at, at_edge, along_row, along_column, e
 use Rattle.edges.proofs.Edges.{middle_live}
 use Rattle.edges.proofs.Theorems.{edge_checks_right}
 use Rattle.life.specs.Plane.{on_plane}
-use Rattle.turns.specs.Turn.{Turn, reflection, diagonal, ◌andThen◌, inverse, turned_width, turned_height, Cell, cell_from, turned_bytes}
+use Rattle.turns.specs.Turn.{Turn, reflection, diagonal, ◌and_then◌, inverse, turned_width, turned_height, Cell, cell_from, turned_bytes}
 use Rattle.turns.proofs.Cells.{Inside, diagonal_from, width_twice, height_twice, from_inside, from_twice}
 use Rattle.turns.proofs.Places.{turned_twice}
 use Rattle.turns.proofs.Eight.{every_turn}

@@ -4,7 +4,7 @@ use mathlib.Core.Path.{◌≡◌, refl, sym, ◌∙◌, ap}
 use mathlib.Core.Bool.{Bool, true, false, not, cond}
 use Prim.Native.Nat.{ℕ, ◌<◌}
 use native.Mathlib.Omega.{arith}
-use Rattle.turns.specs.Turn.{Quarters, none, once, twice, thrice, Turn, diagonal, one_more, plus, back, one_of, ◌andThen◌, side_after, turned_width, turned_height, Cell, reflect, quarter, quarters_from, reflect_from, cell_from}
+use Rattle.turns.specs.Turn.{Quarters, none, once, twice, thrice, Turn, diagonal, one_more, plus, back, one_of, ◌and_then◌, side_after, turned_width, turned_height, Cell, reflect, quarter, quarters_from, reflect_from, cell_from}
 
 -- a cell of a grid w wide and h high
 pub record Inside (w h : ℕ) (s : Cell) : Type 0 where

@@ -1,7 +1,7 @@
 -- All eight turns from two: what holds of the two reflections, left-right and in the diagonal, and of two turns in a row where it holds of each, holds of all.
 -- Assumes nothing.
 use mathlib.Core.Bool.{Bool, true, false}
-use Rattle.turns.specs.Turn.{Quarters, none, once, twice, thrice, Turn, reflection, diagonal, ◌andThen◌}
+use Rattle.turns.specs.Turn.{Quarters, none, once, twice, thrice, Turn, reflection, diagonal, ◌and_then◌}
 
 module _ (Q : Turn → Type 0) (m : Q reflection) (d : Q diagonal) (both : (t u : Turn) → Q t → Q u → Q (t and_then u)) where
   unturned : (f : Bool) → Q (record { reflected = f; quarters = none })

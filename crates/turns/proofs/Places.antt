@@ -11,7 +11,7 @@ use lib.ListN.{length, get_or, length-map}
 use lib.Seq.{ext_get_or}
 use Rattle.board.specs.Lists.{listed}
 use Rattle.board.proofs.Lists.{length_listed, get_d_listed}
-use Rattle.turns.specs.Turn.{Quarters, none, once, twice, thrice, Turn, ◌andThen◌, no_turn, inverse, side_after, turned_width, turned_height, Cell, cell_from, place_in, cell_at, source, turned_list}
+use Rattle.turns.specs.Turn.{Quarters, none, once, twice, thrice, Turn, ◌and_then◌, no_turn, inverse, side_after, turned_width, turned_height, Cell, cell_from, place_in, cell_at, source, turned_list}
 use Rattle.turns.specs.Theorems.{TurnTwice, TurnBack}
 use Rattle.turns.proofs.Cells.{Inside, same_cell, from_inside, width_twice, height_twice, from_twice}
 

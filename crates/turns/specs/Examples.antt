@@ -1,7 +1,7 @@
 -- Req 07: the eight turns of one list, and three pairs of turns in a row.
 -- Assumes nothing.
 use Rattle.std.specs.Prelude.{◌≡◌, Bool, true, false, List, [], ◌∷◌, ℕ, pos, negsuc}
-use Rattle.turns.specs.Turn.{Quarters, none, once, twice, thrice, Turn, ◌andThen◌, turned_list, turned_bytes}
+use Rattle.turns.specs.Turn.{Quarters, none, once, twice, thrice, Turn, ◌and_then◌, turned_list, turned_bytes}
 
 abbrev pub turn_of : Bool → Quarters → Turn
 turn_of reflected quarters = record { reflected = reflected; quarters = quarters }

@@ -1,7 +1,7 @@
 -- Req 07: what is proved of turns: two in a row are one of the eight, and each is undone by one.
 -- Assumes nothing.
 use Rattle.std.specs.Prelude.{◌≡◌, List, ℕ, ◌*◌, length}
-use Rattle.turns.specs.Turn.{Turn, turned_width, turned_height, turned_list, ◌andThen◌, no_turn, inverse}
+use Rattle.turns.specs.Turn.{Turn, turned_width, turned_height, turned_list, ◌and_then◌, no_turn, inverse}
 
 -- turning by t and then by u is one turn, t and_then u: in its width, its height and its entries, of any type
 abbrev pub TurnTwice : Type 1

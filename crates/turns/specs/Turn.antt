@@ -48,8 +48,8 @@ one_of true b = not b
 one_of false b = b
 
 -- the single turn that t and then u are: reflected where exactly one of them is, and the quarter turns of both, t's counterclockwise where u is reflected
-infixl 30 ◌andThen◌
-abbrev pub ◌andThen◌ : Turn → Turn → Turn
+infixl 30 ◌and_then◌
+abbrev pub ◌and_then◌ : Turn → Turn → Turn
 t and_then u = record {
   reflected = one_of u.reflected t.reflected;
   quarters = plus (cond u.reflected (back t.quarters) t.quarters) u.quarters;

@@ -18,7 +18,7 @@ const WIDE_ENTRIES: usize = 2097152;
 // The working calls of a grid that is solved in pieces.
 const PIECES: usize = 9;
 
-#[derive(Drop)]
+#[derive(Clone, Copy)]
 pub enum Answer {
     // The best board's score.
     Best(usize),
@@ -30,7 +30,7 @@ pub enum Answer {
 }
 
 // How a grid is solved.
-#[derive(Drop)]
+#[derive(Clone, Copy)]
 pub struct Way {
     pub kind: Kind,
     pub rule: Rule,
@@ -38,7 +38,7 @@ pub struct Way {
     pub seed: usize,
 }
 
-#[derive(Drop)]
+#[derive(Clone, Copy)]
 pub struct Solution {
     pub answer: Answer,
     pub board: Cells,

@@ -7,7 +7,7 @@ use std::num;
 pub const CELLS: usize = 32;
 
 // The cells in reading order. Past w × h a grid and a list have 0s, and a board what was there.
-#[derive(Drop)]
+#[derive(Clone, Copy)]
 pub struct Cells {
     pub w: usize,
     pub h: usize,

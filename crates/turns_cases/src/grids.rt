@@ -4,7 +4,7 @@ use crate::{cells, random};
 use std::num;
 
 // The grids of a group, by their numbers from 0.
-#[derive(Drop)]
+#[derive(Clone, Copy)]
 pub enum Group {
     // Every grid of a size.
     Every { w: usize, h: usize },

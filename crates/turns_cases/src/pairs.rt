@@ -5,7 +5,7 @@ use crate::{cells, turns};
 use std::num;
 
 // What was tried of a list.
-#[derive(Drop)]
+#[derive(Clone, Copy)]
 struct Tally {
     // Pairs of turns, and the turns of the eight that give what they give.
     pairs: usize,

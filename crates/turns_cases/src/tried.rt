@@ -9,7 +9,7 @@ use rule::Rule;
 use std::num;
 
 // A grid, and what the library answers for it.
-#[derive(Drop)]
+#[derive(Clone, Copy)]
 struct Case {
     rule: Rule,
     seed: usize,
@@ -18,7 +18,7 @@ struct Case {
 }
 
 // What was tried of a group of grids.
-#[derive(Drop)]
+#[derive(Clone, Copy)]
 struct Tally {
     grids: usize,
     // Turned grids, and those of them that were solved in pieces, and by another kind of job than the grid.

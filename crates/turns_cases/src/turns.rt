@@ -4,7 +4,7 @@ use crate::cells;
 use crate::cells::Cells;
 
 // Left and right exchanged or not, and then quarter turns clockwise, 0 to 3.
-#[derive(Drop)]
+#[derive(Clone, Copy)]
 pub struct Turn {
     pub reflected: bool,
     pub quarters: usize,

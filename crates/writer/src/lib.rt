@@ -9,7 +9,7 @@ use board::{Check, Refusal};
 mod rows;
 
 // What writing a board answers: the length of the text.
-#[derive(Drop)]
+#[derive(Clone, Copy)]
 pub enum Written {
     Length(usize),
     Refused(Refusal),
