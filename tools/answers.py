@@ -45,9 +45,14 @@ class Function:
         self.places = {norm(p[0]): n for p, n in zip(it["places"], it["places_by_name"])}
         for (loop, vs), changed in zip(it["loops"], it["changed"]):
             self.loops[norm(loop[0])] = (loop[1], vs, changed)
-        for arm in it["arms"]:
+        self.arms_at = {}
+        for arm, n in zip(it["arms"], it["places_by_name"]):
             for field, step, sub in (arm or [])[2] if arm else []:
-                self.arms.setdefault(tuple(norm(x) for x in [step, *sub]), arm[0] if field.endswith("-own") else f"{arm[0]}.{field}")
+                path = tuple(norm(x) for x in [step, *sub])
+                self.arms.setdefault(path, f"{arm[0]}.{field}")
+                self.arms_at.setdefault(n, {})[path] = f"{arm[0]}.{field}"
+        named = dict(zip([p[0] for p in it["places"]], it["places_by_name"]))
+        self.up = {named[p[0]]: named.get(p[1]) for p in it["places"]}
         # What 'before' is of each place, by its new name: an arm counts as one step.
         parent = {p[0]: p[1] for p in it["places"]}
         arm_of = {p[0]: arm[0] if arm else None for p, arm in zip(it["places"], it["arms"])}
@@ -114,8 +119,14 @@ class Function:
 
         def path(m):
             steps = m[0][1:].split(".")
+            # A step that was spelled like a lemma of the repository, and was renamed with it.
+            if steps[0].endswith("_lem") and norm(steps[0][:-4]) in self.steps:
+                steps[0] = steps[0][:-4]
             for n in range(len(steps), 0, -1):
-                new = self.arms.get(tuple(norm(x) for x in steps[:n]))
+                old, at, new = tuple(norm(x) for x in steps[:n]), here, None
+                while at and not new:
+                    new, at = self.arms_at.get(at, {}).get(old), self.up.get(at)
+                new = new or (None if here else self.arms.get(old))
                 if new:
                     return "." + ".".join([new, *steps[n:]])
             return "." + ".".join([self.steps.get(norm(steps[0]), steps[0]), *steps[1:]])
@@ -234,7 +245,7 @@ def as_answers(f, parts):
         for comment, name, new, unfolding, clauses in answers:
             clauses = re.sub(rf"(?m)^{re.escape(name)}(?: \S+)*? =", lambda m: new + " c =", clauses)
             first, _, body = clauses.partition(" =")
-            out += comment + [f"pub {new} : goal.{new}"] + unfolding + [first + " =" + f.turned(body, True), ""]
+            out += comment + [f"pub {new} : goal.{new}"] + unfolding + [first + " =" + f.turned(body, True, "c", f.place_of(new)), ""]
         made.append(("Answers.antt", out))
     return made
 

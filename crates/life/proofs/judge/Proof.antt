@@ -13,45 +13,35 @@ use Rattle.life.proofs.judge.Statement.{statement}
 use Rattle.life.proofs.judge.Tie as tie
 
 -- past the checks the board is taken
-checked : (c : tie.After-enum-told) → let g = c.before.before.before.before.args in life_check g.rule g.w g.h g.cells.now ≡ passed
-checked c = let_through c.before.before.check-life.ensures c.enum_told.given.1
+checked : (c : tie.In_default) → let g = c.args in life_check g.rule g.w g.h g.cells.now ≡ passed
+checked c = let_through c.check_life.ensures c.in_default.is
 
-board : (c : tie.After-enum-told) → let g = c.before.before.before.before.args in Board g.w g.h g.cells.now
-board c = let g = c.before.before.before.before.args in (taken g.rule g.w g.h g.cells.now (checked c)).1
+board : (c : tie.In_default) → let g = c.args in Board g.w g.h g.cells.now
+board c = let g = c.args in (taken g.rule g.w g.h g.cells.now (checked c)).1
 
-check-life-requires : tie.Need-check-life-requires
-check-life-requires c κs = search rules
+check_life-requires : tie.Need-check_life-requires
+check_life-requires c κs = search rules
 
-enum-known-r : tie.Need-enum-known-r
-enum-known-r c = search rules
+enum_known-r : tie.Need-enum_known-r
+enum_known-r c = search rules
+
+returns-in-Refused : tie.Need-returns-in-Refused
+unfolding judge_rule
+returns-in-Refused c = turned_away_lem c.check_life.ensures c.in-Refused.is _
+
+enum_told-1 : tie.Need-enum_told-1
+enum_told-1 c = search rules
+
+of-next-requires : tie.Need-of-next-requires
+of-next-requires c κs = search rules
+
+first_change-requires : tie.Need-first_change-requires
+first_change-requires c κs = board c.before.before
 
 returns : tie.Need-returns
 unfolding judge_rule
-returns c = turned_away_lem c.before.before.before.check-life.ensures c.before.r.given.1 _
+returns c =
+    rw (checked c.before.before.before) (c.first_change.ensures ∙ judged_same _ (next_under _) c.of-next.ensures.entry (board c.before.before.before).bytes)
 
-enum_told : tie.Need-enum-told
-enum_told c = search rules
-
-of-requires : tie.Need-of-requires
-of-requires c κs = search rules
-
-first-change-requires : tie.Need-first-change-requires
-first-change-requires c κs = board c.before.before
-
-returns-2 : tie.Need-returns-2
-unfolding judge_rule
-returns-2 c =
-    let t = c.before.before.before in
-    rw (checked t) (c.first-change.ensures ∙ judged_same _ (next_under _) c.before.before.of.ensures.entry (board t).bytes)
-
-pub judge-spec : {M : Type 1} → statement M
-judge-spec =
-    tie.close
-    (tie.spec
-    check-life-requires
-    enum-known-r
-    returns
-    enum_told
-    of-requires
-    first-change-requires
-    returns-2)
+pub judge_spec : {M : Type 1} → statement M
+judge_spec = tie.close (tie.spec check_life-requires enum_known-r returns-in-Refused enum_told-1 of-next-requires first_change-requires returns)

@@ -16,73 +16,58 @@ use Rattle.life.proofs.step.Statement.{statement}
 use Rattle.life.proofs.step.Tie as tie
 
 -- past the checks the board is taken
-checked : (c : tie.After-enum-told) → let g = c.before.before.before.before.before.args in life_check g.rule g.w g.h g.cells.now ≡ passed
-checked c = let_through c.before.before.check-life.ensures c.enum_told.given.1
+checked : (c : tie.In_default) → let g = c.args in life_check g.rule g.w g.h g.cells.now ≡ passed
+checked c = let_through c.check_life.ensures c.in_default.is
 
-board : (c : tie.After-enum-told) → let g = c.before.before.before.before.before.args in Board g.w g.h g.cells.now
-board c = let g = c.before.before.before.before.before.args in (taken g.rule g.w g.h g.cells.now (checked c)).1
+board : (c : tie.In_default) → let g = c.args in Board g.w g.h g.cells.now
+board c = let g = c.args in (taken g.rule g.w g.h g.cells.now (checked c)).1
 
-check-life-requires : tie.Need-check-life-requires
-check-life-requires c κs = search rules
+check_life-requires : tie.Need-check_life-requires
+check_life-requires c κs = search rules
 
-enum-known-r : tie.Need-enum-known-r
-enum-known-r c = search rules
+enum_known-r : tie.Need-enum_known-r
+enum_known-r c = search rules
+
+returns-in-Refused : tie.Need-returns-in-Refused
+unfolding step_rule step_writes
+returns-in-Refused c =
+    let e = turned_away_lem c.check_life.ensures c.in-Refused.is _ in
+    (e, refused_keeps c.in-Refused.r e _ _)
+
+enum_told-1 : tie.Need-enum_told-1
+enum_told-1 c = search rules
+
+overflow_add-w : tie.Need-overflow_add-w
+overflow_add-w c = omega (arith, (board c).size.narrow)
+
+overflow_add-h : tie.Need-overflow_add-h
+overflow_add-h c = omega (arith, (board c).size.low)
+
+overflow_mul-w : tie.Need-overflow_mul-w
+overflow_mul-w c =
+    let b = board c in
+    omega (arith, mul-le-mul_right c.args.h b.size.narrow, b.size.narrow, b.size.low)
+
+returns-then-ring-w : tie.Need-returns-then-ring-w
+unfolding step_rule step_writes
+returns-then-ring-w c = (simp (checked c.before, ne_eqb _ _ c.if-ring-w.true), simp (checked c.before, ne_eqb _ _ c.if-ring-w.true))
+
+of-next-requires : tie.Need-of-next-requires
+of-next-requires c κs = search rules
+
+write_step-requires : tie.Need-write_step-requires
+write_step-requires c κs = (board c.before.before.before.before, c.if-ring-w.false)
+
+shape_of-ring : tie.Need-shape_of-ring
+shape_of-ring c = search rules
 
 returns : tie.Need-returns
 unfolding step_rule step_writes
 returns c =
-    let e = turned_away_lem c.before.before.before.check-life.ensures c.before.r.given.1 _ in
-    (e, refused_keeps c.before.r.given.0.0 e _ _)
-
-enum_told : tie.Need-enum-told
-enum_told c = search rules
-
-add-if1 : tie.Need-overflow-add-if1
-add-if1 c = omega (arith, (board c).size.narrow)
-
-add-if1-2 : tie.Need-overflow-add-if1-2
-add-if1-2 c = omega (arith, (board c).size.low)
-
-mul-if1 : tie.Need-overflow-mul-if1
-mul-if1 c =
-    let b = board c in
-    omega (arith, mul-le-mul_right c.before.before.before.before.before.args.h b.size.narrow, b.size.narrow, b.size.low)
-
-returns-2 : tie.Need-returns-2
-unfolding step_rule step_writes
-returns-2 c = (simp (checked c.before, ne_eqb _ _ c.if1.true), simp (checked c.before, ne_eqb _ _ c.if1.true))
-
-of-requires : tie.Need-of-requires
-of-requires c κs = search rules
-
-write-step-requires : tie.Need-write-step-requires
-write-step-requires c κs = (board c.before.before.before.before, c.before.before.before.if1.false)
-
-same_length : tie.Need-same-length
-same_length c = search rules
-
-returns-3 : tie.Need-returns-3
-unfolding step_rule step_writes
-returns-3 c =
-    let d = c.before.before.before.before.before.before in
-    let t = d.before in (
-      simp (checked t, eq-eqb _ _ d.if1.false),
-      simp (checked t, eq-eqb _ _ d.if1.false) (c.before.before.write_step.ensures ∙ stepped_same _ (next_under _) c.before.before.before.before.before.of.ensures.entry (board t).bytes),
+    (
+      simp (checked c.before.before.before.before.before.before.before, eq-eqb _ _ c.if-ring-w.false),
+      simp (checked c.before.before.before.before.before.before.before, eq-eqb _ _ c.if-ring-w.false) (c.write_step.ensures ∙ stepped_same _ (next_under _) c.of-next.ensures.entry (board c.before.before.before.before.before.before.before).bytes),
     )
 
 pub step_spec : {M : Type 1} → statement M
-step_spec =
-    tie.close
-    (tie.spec
-    check-life-requires
-    enum-known-r
-    returns
-    enum_told
-    add-if1
-    add-if1-2
-    mul-if1
-    returns-2
-    of-requires
-    write-step-requires
-    same_length
-    returns-3)
+step_spec = tie.close (tie.spec check_life-requires enum_known-r returns-in-Refused enum_told-1 overflow_add-w overflow_add-h overflow_mul-w returns-then-ring-w of-next-requires write_step-requires shape_of-ring returns)

@@ -10,51 +10,41 @@ use Rattle.rule.proofs.table.generate.Statement.{statement}
 use Rattle.rule.proofs.table.generate.Tie as tie
 
 -- past the first check the rule is taken
-checked : (c : tie.After-enum-told) → rule_check c.before.before.before.before.args.rule ≡ passed
-checked c = let_through c.before.before.check-rule.ensures c.enum_told.given.1
+checked : (c : tie.In_default) → rule_check c.args.rule ≡ passed
+checked c = let_through c.check_rule.ensures c.in_default.is
 
-check-rule-requires : tie.Need-check-rule-requires
-check-rule-requires c κs = search rules
+check_rule-requires : tie.Need-check_rule-requires
+check_rule-requires c κs = search rules
 
-enum-known-r : tie.Need-enum-known-r
-enum-known-r c = search rules
+enum_known-r : tie.Need-enum_known-r
+enum_known-r c = search rules
 
-returns : tie.Need-returns
+returns-in-Refused : tie.Need-returns-in-Refused
 unfolding generate_rule generate_writes
-returns c =
-    let e = turned_away_lem c.before.before.before.check-rule.ensures c.before.r.given.1 _ in
-    (e, refused_keeps c.before.r.given.0.0 e _ _)
+returns-in-Refused c =
+    let e = turned_away_lem c.check_rule.ensures c.in-Refused.is _ in
+    (e, refused_keeps c.in-Refused.r e _ _)
 
-enum_told : tie.Need-enum-told
-enum_told c = search rules
+enum_told-1 : tie.Need-enum_told-1
+enum_told-1 c = search rules
 
-returns-2 : tie.Need-returns-2
+returns-then-table-ne512 : tie.Need-returns-then-table-ne512
 unfolding generate_rule generate_writes
-returns-2 c = (simp (checked c.before, ne_eqb _ _ c.if1.true), simp (checked c.before, ne_eqb _ _ c.if1.true))
+returns-then-table-ne512 c = (simp (checked c.before, ne_eqb _ _ c.if-table-ne512.true), simp (checked c.before, ne_eqb _ _ c.if-table-ne512.true))
 
 fill-requires : tie.Need-fill-requires
 fill-requires c κs = search rules
 
-same_length : tie.Need-same-length
-same_length c = search rules
+shape_of-table : tie.Need-shape_of-table
+shape_of-table c = search rules
 
-returns-3 : tie.Need-returns-3
+returns : tie.Need-returns
 unfolding generate_rule generate_writes
-returns-3 c =
-    let d = c.before.before.before.before in (
-      simp (checked d.before, eq-eqb _ _ d.if1.false),
-      simp (checked d.before, eq-eqb _ _ d.if1.false) c.before.before.fill.ensures,
+returns c =
+    (
+      simp (checked c.before.before.before.before.before, eq-eqb _ _ c.if-table-ne512.false),
+      simp (checked c.before.before.before.before.before, eq-eqb _ _ c.if-table-ne512.false) c.fill.ensures,
     )
 
-pub generate-spec : {M : Type 1} → statement M
-generate-spec =
-    tie.close
-    (tie.spec
-    check-rule-requires
-    enum-known-r
-    returns
-    enum_told
-    returns-2
-    fill-requires
-    same_length
-    returns-3)
+pub generate_spec : {M : Type 1} → statement M
+generate_spec = tie.close (tie.spec check_rule-requires enum_known-r returns-in-Refused enum_told-1 returns-then-table-ne512 fill-requires shape_of-table returns)

@@ -3,12 +3,8 @@
 use mathlib.Core.Path.{refl}
 use Rattle.rule.specs.Rule.{conway}
 use Rattle.rule.proofs.Entries.{right, conway_table}
-use Rattle.rule.proofs.table.conway.Statement.{statement}
-use Rattle.rule.proofs.table.conway.Tie as tie
+use Rattle.rule.proofs.table.conway.Goals as goal
 
-returns : tie.Need-returns
+pub returns : goal.returns
 unfolding right conway
 returns c = conway_table _ refl tt
-
-pub conway-spec : {M : Type 1} → statement M
-conway-spec = tie.close (tie.spec returns)
