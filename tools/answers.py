@@ -64,7 +64,7 @@ class Function:
                     up = parent[up]
             self.before[n] = up and dict(zip(parent, it["places_by_name"]))[up]
         self.pairs, self.asked_all = it["needs"], [new for _, new in it["asked_at"]]
-        self.lemmas = {}
+        self.lemmas, self.binders = {}, {}
         self.goals = [g for g, _ in off]
         self.by_dashes = {norm(g): g for g in self.goals}
 
@@ -118,7 +118,12 @@ class Function:
                 self.said.append(f"bare {m[0]} near '{text[max(0, m.start() - 20) : m.end()]}'")
 
         def path(m):
-            steps = m[0][1:].split(".")
+            steps = m[1:].split(".")
+            first = ["before"] if steps[0] == "before" else []
+            while steps[0] == "before" and len(steps) > 1:
+                steps = steps[1:]
+                first.append("before")
+            first = first[1:] if first else []
             # A step that was spelled like a lemma of the repository, and was renamed with it.
             if steps[0].endswith("_lem") and norm(steps[0][:-4]) in self.steps:
                 steps[0] = steps[0][:-4]
@@ -128,10 +133,11 @@ class Function:
                     new, at = self.arms_at.get(at, {}).get(old), self.up.get(at)
                 new = new or (None if here else self.arms.get(old))
                 if new:
-                    return "." + ".".join([new, *steps[n:]])
-            return "." + ".".join([self.steps.get(norm(steps[0]), steps[0]), *steps[1:]])
+                    return "." + ".".join([*first, new, *steps[n:]])
+            return "." + ".".join([*first, self.steps.get(norm(steps[0]), steps[0]), *steps[1:]])
 
-        text = re.sub(r"(?<=[\w'₀-₉])(?:\.[A-Za-z0-9][\w'-]*)+", path, text)
+        text = re.sub(r"\.taken(?![\w'-])", ".true", re.sub(r"\.left(?![\w'-])", ".false", text)) if re.search(r"test\.(taken|left)", text) else text
+        text = re.sub(rf"(?<![\w.'-]){re.escape(root)}((?:\.[A-Za-z0-9][\w'-]*)+)", lambda m: root + path(m[1]), text)
         text = re.sub(r"not-(?:true|false) (?:_|\([^()]*\)|[\w.'-]+) ([\w.'₀-₉-]*\.if-not-[\w'-]+\.(?:true|false))", r"\1", text)
 
         def place(m):
@@ -268,7 +274,7 @@ def as_walk(f, parts):
         at = f.lemmas.get(name)
         first, _, rest = clauses.partition(" =")
         arg = (first.split() + ["c", "c"])[1] if at else "c"
-        body.append(comment + [f.turned(sig, False, "c", None), first + " =" + f.turned(rest, False, arg, at), ""])
+        body.append(comment + [f.turned(sig, False, f.binders.get(name, "c"), at), first + " =" + f.turned(rest, False, arg, at), ""])
     for b in body:
         out += b
     for g in f.goals:
@@ -303,10 +309,16 @@ def main(argv):
             continue
         f = Function(names[key], off, crate, name, folder)
         parts = parsed(f, text)
-        for name_, _, sig, _ in parts[4]:
-            m = re.search(r"\(\w+ : tie\.([A-Z][\w'-]*)", sig)
+        kinds = {}
+        for name_, _, sig, clauses in parts[4]:
+            m = re.match(rf"{re.escape(name_)} = tie\.([A-Z][\w'-]*)", clauses)
             if m and norm(m[1]) in f.places:
-                f.lemmas[name_] = f.places[norm(m[1])]
+                kinds[name_] = f.places[norm(m[1])]
+        for name_, _, sig, _ in parts[4]:
+            m = re.search(r"\((\w+) : (tie\.)?([A-Z][\w'-]*)", sig)
+            if m and (norm(m[3]) in f.places if m[2] else m[3] in kinds):
+                f.lemmas[name_] = f.places[norm(m[3])] if m[2] else kinds[m[3]]
+                f.binders[name_] = m[1]
         walks = any(re.search(r"tie\.[A-Z]", l[2] + l[3]) for l in parts[4])
         made = as_walk(f, parts) if walks else as_answers(f, parts)
         os.remove(os.path.join(folder, "Proof.antt"))

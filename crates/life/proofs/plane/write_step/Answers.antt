@@ -27,11 +27,11 @@ loop-k-preserved c =
     let g = c.args in
     let f = next_at (entry_of g.next.now) g.w g.h g.cells.now in
     let k = c.loop-k.k in
-    let l : k < length g.ring-1.now = omega arith in
+    let l : k < length g.ring.now = omega arith in
     let e = next_is (entry_of g.next.now) g.w g.h g.cells.now k c.pattern-p.ensures.0 in (
       search rules,
       rw length-set c.loop-k.invariant.1,
-      rw (c.loop-k.invariant.2, e) (listed_more f g.ring-1.now k l),
+      rw (c.loop-k.invariant.2, e) (listed_more f g.ring.now k l),
     )
 
 pub returns : goal.returns
@@ -39,4 +39,4 @@ unfolding stepped
 returns c =
     let g = c.args in
     let e : c.loop-k.k ≡ ring_size g.w g.h = omega arith in
-    c.loop-k.invariant.2 ∙ rw e (listed_all _ g.ring-1.now (ring_size g.w g.h) c.requires.1)
+    c.loop-k.invariant.2 ∙ rw e (listed_all _ g.ring.now (ring_size g.w g.h) c.requires.1)
