@@ -124,6 +124,9 @@ class Function:
                 steps = steps[1:]
                 first.append("before")
             first = first[1:] if first else []
+            # A method's step was called after its type.
+            if re.match(r"[A-Z]\w*-[a-z]", steps[0]) and norm(steps[0]) not in self.steps:
+                steps[0] = re.sub(r"^[A-Z]\w*?-", "", steps[0])
             # A step that was spelled like a lemma of the repository, and was renamed with it.
             if steps[0].endswith("_lem") and norm(steps[0][:-4]) in self.steps:
                 steps[0] = steps[0][:-4]
@@ -138,6 +141,9 @@ class Function:
 
         text = re.sub(r"\.taken(?![\w'-])", ".true", re.sub(r"\.left(?![\w'-])", ".false", text)) if re.search(r"test\.(taken|left)", text) else text
         text = re.sub(rf"(?<![\w.'-]){re.escape(root)}((?:\.[A-Za-z0-9][\w'-]*)+)", lambda m: root + path(m[1]), text)
+        text = re.sub(r"(?<=\))(?:\.[A-Za-z][\w'-]*)+", lambda m: path(m[0]), text)
+        for old, new in (("inv", "invariant"), ("pre", "requires"), ("well-formed", "well_formed")):
+            text = re.sub(rf"(?<=[\w')₀-₉])\.{old}(?![\w'-])", "." + new, text)
         text = re.sub(r"not-(?:true|false) (?:_|\([^()]*\)|[\w.'-]+) ([\w.'₀-₉-]*\.if-not-[\w'-]+\.(?:true|false))", r"\1", text)
 
         def place(m):

@@ -9,35 +9,34 @@ use Rattle.board_rows.proofs.Writing.{no_room, has_room, writes_none, writes_out
 use Rattle.board_rows.proofs.write_row.Statement.{statement}
 use Rattle.board_rows.proofs.write_row.Tie as tie
 
-returns : tie.Need-returns
-returns c = let a = c.before.before.args in rw c.if1.true (sym (writes_none a.bits a.r a.row a.board.now))
-
-div-if2 : tie.Need-nonzero-div-if2
-div-if2 c = search rules
-
-returns-2 : tie.Need-returns-2
-returns-2 c =
-    let a = c.before.before.before.args in
-    sym (writes_outside a.bits a.r a.row a.board.now a.w (no_room c.before.if1.false c.if2.true))
-
 -- the row lies within the board
-room : (c : tie.Else2) → let a = c.before.before.before.args in suc a.r * a.w ≤ length a.board.now
-room c = has_room c.before.if1.false c.if2.false
+room : (c : tie.Else-board-w) → let a = c.args in suc a.r * a.w ≤ length a.board.now
+room c = has_room c.if-w-eq0.false c.if-board-w.false
 
-mul-write-cells : tie.Need-overflow-mul-write-cells
-mul-write-cells c = omega (arith, room c.before)
+returns-then-w-eq0 : tie.Need-returns-then-w-eq0
+returns-then-w-eq0 c = let a = c.args in rw c.if-w-eq0.true (sym (writes_none a.bits a.r a.row a.board.now))
 
-write-cells-requires : tie.Need-write-cells-requires
-write-cells-requires c κs = omega (arith, room c.before)
+nonzero_div-board : tie.Need-nonzero_div-board
+nonzero_div-board c = search rules
 
-same_length : tie.Need-same-length
-same_length c = search rules
+returns-then-board-w : tie.Need-returns-then-board-w
+returns-then-board-w c =
+    let a = c.args in
+    sym (writes_outside a.bits a.r a.row a.board.now a.w (no_room c.if-w-eq0.false c.if-board-w.true))
 
-returns-3 : tie.Need-returns-3
-returns-3 c =
-    let d = c.before.before.before.before in
-    let a = d.before.before.before.args in
-    c.before.before.write-cells.ensures ∙ sym (writes_inside a.bits a.r a.row a.board.now a.w (room d))
+overflow_mul-r : tie.Need-overflow_mul-r
+overflow_mul-r c = omega (arith, room c.before)
 
-pub write-row-spec : {M : Type 1} → statement M
-write-row-spec = tie.close (tie.spec returns div-if2 returns-2 mul-write-cells write-cells-requires same_length returns-3)
+write_cells-requires : tie.Need-write_cells-requires
+write_cells-requires c κs = omega (arith, room c.before)
+
+shape_of-board : tie.Need-shape_of-board
+shape_of-board c = search rules
+
+returns : tie.Need-returns
+returns c =
+    let a = c.args in
+    c.write_cells.ensures ∙ sym (writes_inside a.bits a.r a.row a.board.now a.w (room c.before.before.before.before))
+
+pub write_row_spec : {M : Type 1} → statement M
+write_row_spec = tie.close (tie.spec returns-then-w-eq0 nonzero_div-board returns-then-board-w overflow_mul-r write_cells-requires shape_of-board returns)

@@ -28,8 +28,8 @@ handed : {i j : Job} → JobResult.Ready i ≡ JobResult.Ready j → j ≡ i
 handed e = cc
 
 -- the size is checked by how the kind holds rows
-framed : (c : tie.After-check) → let a = c.before.before.before.args in check_says c.check.result ≡ grid_check (halves_of a.kind) a.rule a.width a.height
-framed c = rw c.before.halves.ensures at c.check.ensures
+framed : (c : tie.After-check) → let a = c.args in check_says c.check.result ≡ grid_check (halves_of a.kind) a.rule a.width a.height
+framed c = rw c.halves.ensures at c.check.ensures
 
 halves-requires : tie.Need-halves-requires
 halves-requires c κs = search rules
@@ -37,54 +37,41 @@ halves-requires c κs = search rules
 check-requires : tie.Need-check-requires
 check-requires c κs = search rules
 
-enum-known-r : tie.Need-enum-known-r
-enum-known-r c = search rules
+enum_known-r : tie.Need-enum_known-r
+enum_known-r c = search rules
+
+returns-in-Refused : tie.Need-returns-in-Refused
+unfolding open_rule
+returns-in-Refused c = refused (turned_away_lem (framed c.before) c.in-Refused.is _)
+
+enum_told-1 : tie.Need-enum_told-1
+enum_told-1 c = search rules
+
+check_read-requires : tie.Need-check_read-requires
+check_read-requires c κs = search rules
+
+enum_known-r-in-Refused-check_read : tie.Need-enum_known-r-in-Refused-check_read
+enum_known-r-in-Refused-check_read c = search rules
+
+returns-in-Refused-check_read : tie.Need-returns-in-Refused-check_read
+unfolding open_rule
+returns-in-Refused-check_read c =
+    refused
+    (passed_on (framed c.before.before.before) c.in_default.is
+    (turned_away_lem c.check_read.ensures c.in-Refused-check_read.is _))
+
+enum_told-in_default-check_read : tie.Need-enum_told-in_default-check_read
+enum_told-in_default-check_read c = search rules
 
 returns : tie.Need-returns
 unfolding open_rule
-returns c = refused (turned_away_lem (framed c.before.before.before) c.before.r.given.1 _)
-
-enum_told : tie.Need-enum-told
-enum_told c = search rules
-
-check-read-requires : tie.Need-check-read-requires
-check-read-requires c κs = search rules
-
-enum-known-r-2 : tie.Need-enum-known-r-2
-enum-known-r-2 c = search rules
-
-returns-2 : tie.Need-returns-2
-unfolding open_rule
-returns-2 c =
-    let d = c.before.before.before in
-    refused
-    (passed_on (framed d.before.before.before) d.before.enum_told.given.1
-    (turned_away_lem d.check-read.ensures c.before.r2.given.1 _))
-
-enum-told-2 : tie.Need-enum-told-2
-enum-told-2 c = search rules
-
-returns-3 : tie.Need-returns-3
-unfolding open_rule
-returns-3 c =
-    let d = c.before.before in record {
+returns c =
+    record {
       says =
-          passed_on (framed d.before.before.before) d.before.enum_told.given.1
-          (passed_on d.check-read.ensures c.enum-told2.given.1 refl);
+          passed_on (framed c.before.before.before) c.in_default.is
+          (passed_on c.check_read.ensures c.in_default-check_read.is refl);
       job = λ j e. handed e;
     }
 
 pub open_spec : {M : Type 1} → statement M
-open_spec =
-    tie.close
-    (tie.spec
-    halves-requires
-    check-requires
-    enum-known-r
-    returns
-    enum_told
-    check-read-requires
-    enum-known-r-2
-    returns-2
-    enum-told-2
-    returns-3)
+open_spec = tie.close (tie.spec halves-requires check-requires enum_known-r returns-in-Refused enum_told-1 check_read-requires enum_known-r-in-Refused-check_read returns-in-Refused-check_read enum_told-in_default-check_read returns)

@@ -12,92 +12,64 @@ use Rattle.job_kind.proofs.check_read.Statement.{statement}
 use Rattle.job_kind.proofs.check_read.Tie as tie
 
 -- past the first test the checks are those of givens
-of_givens : (c : tie.Else1) {a : Answer} → let g = c.before.before.before.args in
+of_givens : (c : tie.Else-has_target) {a : Answer} → let g = c.args in
     a ≡ (givens_check g.width g.height g.givens.now then later_checks g.kind g.rule g.width g.height g.givens.now)
     → a ≡ read_check g.kind g.rule g.width g.height g.givens.now
-of_givens c e = e ∙ sym (read_givens _ _ _ _ _ (sym c.before.has-target.ensures ∙ c.if1.false))
+of_givens c e = e ∙ sym (read_givens _ _ _ _ _ (sym c.has_target.ensures ∙ c.if-has_target.false))
 
-has-target-requires : tie.Need-has-target-requires
-has-target-requires c κs = search rules
+has_target-requires : tie.Need-has_target-requires
+has_target-requires c κs = search rules
 
-check-target-requires : tie.Need-check-target-requires
-check-target-requires c κs = search rules
+check_target-requires : tie.Need-check_target-requires
+check_target-requires c κs = search rules
 
-returns : tie.Need-returns
-returns c =
-    let t = c.before in
-    c.check-target.ensures ∙ sym (read_target _ _ _ _ _ (sym t.before.has-target.ensures ∙ t.if1.true))
+returns-then-has_target : tie.Need-returns-then-has_target
+returns-then-has_target c =
+    c.check_target.ensures ∙ sym (read_target _ _ _ _ _ (sym c.has_target.ensures ∙ c.if-has_target.true))
 
-check-givens-requires : tie.Need-check-givens-requires
-check-givens-requires c κs = search rules
+check_givens-requires : tie.Need-check_givens-requires
+check_givens-requires c κs = search rules
 
-enum-known-r : tie.Need-enum-known-r
-enum-known-r c = search rules
+enum_known-r : tie.Need-enum_known-r
+enum_known-r c = search rules
 
-returns-2 : tie.Need-returns-2
-returns-2 c =
-    let d = c.before.before.before in
-    of_givens d.before (turned_away_lem d.check-givens.ensures c.before.r.given.1 _)
+returns-in-Refused : tie.Need-returns-in-Refused
+returns-in-Refused c =
+    of_givens c.before.before (turned_away_lem c.check_givens.ensures c.in-Refused.is _)
 
-enum_told : tie.Need-enum-told
-enum_told c = search rules
+enum_told-1 : tie.Need-enum_told-1
+enum_told-1 c = search rules
 
 check-requires : tie.Need-check-requires
 check-requires c κs = search rules
 
-enum-known-r-2 : tie.Need-enum-known-r-2
-enum-known-r-2 c = search rules
+enum_known-r-in-Refused-check : tie.Need-enum_known-r-in-Refused-check
+enum_known-r-in-Refused-check c = search rules
 
-returns-3 : tie.Need-returns-3
-returns-3 c =
-    let d = c.before.before.before in
-    let b = d.before.before.before in
-    of_givens b.before (passed_on b.check-givens.ensures d.before.enum_told.given.1 (turned_away_lem d.check.ensures c.before.r2.given.1 _))
+returns-in-Refused-check : tie.Need-returns-in-Refused-check
+returns-in-Refused-check c =
+    of_givens c.before.before.before.before (passed_on c.check_givens.ensures c.in_default.is (turned_away_lem c.check.ensures c.in-Refused-check.is _))
 
-enum-told-2 : tie.Need-enum-told-2
-enum-told-2 c = search rules
+enum_told-in_default-check : tie.Need-enum_told-in_default-check
+enum_told-in_default-check c = search rules
 
 halves-requires : tie.Need-halves-requires
 halves-requires c κs = search rules
 
-returns-4 : tie.Need-returns-4
-returns-4 c =
-    let e = c.before.before in
-    let d = e.before.before in
-    let b = d.before.before.before in
-    of_givens b.before
-    (passed_on b.check-givens.ensures d.before.enum_told.given.1
-    (passed_on d.check.ensures e.enum-told2.given.1 (rw (sym c.before.halves.ensures ∙ not-true _ c.if2.true) refl)))
+returns-then-not-halves : tie.Need-returns-then-not-halves
+returns-then-not-halves c =
+    of_givens c.before.before.before.before.before.before
+    (passed_on c.check_givens.ensures c.in_default.is
+    (passed_on c.check.ensures c.in_default-check.is (rw (sym c.halves.ensures ∙ c.if-not-halves.true) refl)))
 
 check-requires-2 : tie.Need-check-requires-2
 check-requires-2 c κs = search rules
 
-returns-5 : tie.Need-returns-5
-returns-5 c =
-    let h = c.before in
-    let e = h.before.before in
-    let d = e.before.before in
-    let b = d.before.before.before in
-    of_givens b.before
-    (passed_on b.check-givens.ensures d.before.enum_told.given.1
-    (passed_on d.check.ensures e.enum-told2.given.1 (rw (sym h.before.halves.ensures ∙ not-false _ h.if2.false) c.check2.ensures)))
+returns : tie.Need-returns
+returns c =
+    of_givens c.before.before.before.before.before.before.before
+    (passed_on c.check_givens.ensures c.in_default.is
+    (passed_on c.check.ensures c.in_default-check.is (rw (sym c.halves.ensures ∙ c.if-not-halves.false) c.check-2.ensures)))
 
-pub check-read-spec : {M : Type 1} → statement M
-check-read-spec =
-    tie.close
-    (tie.spec
-    has-target-requires
-    check-target-requires
-    returns
-    check-givens-requires
-    enum-known-r
-    returns-2
-    enum_told
-    check-requires
-    enum-known-r-2
-    returns-3
-    enum-told-2
-    halves-requires
-    returns-4
-    check-requires-2
-    returns-5)
+pub check_read_spec : {M : Type 1} → statement M
+check_read_spec = tie.close (tie.spec has_target-requires check_target-requires returns-then-has_target check_givens-requires enum_known-r returns-in-Refused enum_told-1 check-requires enum_known-r-in-Refused-check returns-in-Refused-check enum_told-in_default-check halves-requires returns-then-not-halves check-requires-2 returns)

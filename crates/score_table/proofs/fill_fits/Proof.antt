@@ -14,89 +14,65 @@ use Rattle.score_table.proofs.fill_fits.Statement.{statement}
 use Rattle.score_table.proofs.fill_fits.Tie as tie
 
 -- what each test that is passed shows
-fitting : (c : tie.Else1) → let g = c.before.before.before.args in call_fits g.want g.w g.h g.givens.now ≡ true
-fitting c = sym c.before.fits2.ensures ∙ not-false _ c.if1.false
+fitting : (c : tie.Else-not-fits) → let g = c.args in call_fits g.want g.w g.h g.givens.now ≡ true
+fitting c = sym c.fits2.ensures ∙ c.if-not-fits.false
 
-narrow : (c : tie.After-row-digits) → c.row-digits.result ≤ max_width
+narrow : (c : tie.After-row_digits-bits) → c.row_digits-bits.result ≤ max_width
 narrow c =
-    let d = c.before.before in
-    rw c.row-digits.ensures (call_memory d.before.before.before.args.want _ _ _ (fitting d)).width.narrow
+    rw c.row_digits-bits.ensures (call_memory c.args.want _ _ _ (fitting c.before.before)).width.narrow
 
-size : (c : tie.After-layer-size) → let g = c.before.before.before.before.before.before.args in c.layer-size.result ≡ 4 ^ digits_of g.want g.w
-size c = rw c.before.row-digits.ensures at c.layer-size.ensures.0
+size : (c : tie.After-layer_size-q) → let g = c.args in c.layer_size-q.result ≡ 4 ^ digits_of g.want g.w
+size c = rw c.row_digits-bits.ensures at c.layer_size-q.ensures.0
 
-inside : (c : tie.Else4) → let g = c.before.before.before.before.before.before.before.before.args in g.from + g.count ≤ 4 ^ digits_of g.want g.w
-inside c = omega (arith, size c.before.before, c.before.if3.false, c.if4.false)
+inside : (c : tie.Else-q-count-2) → let g = c.args in g.from + g.count ≤ 4 ^ digits_of g.want g.w
+inside c = omega (arith, size c.before.before, c.if-q-count.false, c.if-q-count-2.false)
 
-target_in : (c : tie.Else5) → let g = c.before.before.before.before.before.before.before.before.before.before.args in
+target_in : (c : tie.Else-not-layer_fits) → let g = c.args in
     layer_fits (digits_of g.want g.w) g.n g.target ≡ true
-target_in c = rw c.before.before.before.before.before.row-digits.ensures at (sym c.before.layer-fits.ensures ∙ not-false _ c.if5.false)
+target_in c = rw c.row_digits-bits.ensures at (sym c.layer_fits.ensures ∙ c.if-not-layer_fits.false)
 
 fits-requires : tie.Need-fits-requires
 fits-requires c κs = search rules
 
+returns-then-not-fits : tie.Need-returns-then-not-fits
+returns-then-not-fits c = fits_unfit _ _ _ _ _ _ _ _ _ _ (sym c.fits2.ensures ∙ c.if-not-fits.true)
+
+returns-then-h-after : tie.Need-returns-then-h-after
+returns-then-h-after c = fits_past _ _ _ _ _ _ _ _ _ _ (fitting c.before) c.if-h-after.true
+
+row_digits-bits-requires : tie.Need-row_digits-bits-requires
+row_digits-bits-requires c κs = search rules
+
+layer_size-q-requires : tie.Need-layer_size-q-requires
+layer_size-q-requires c κs = narrow c
+
+returns-then-q-count : tie.Need-returns-then-q-count
+returns-then-q-count c =
+    fits_outside _ _ _ _ _ _ _ _ _ _ (fitting c.before.before.before.before) c.if-h-after.false (omega (arith, size c.before, c.if-q-count.true))
+
+returns-then-q-count-2 : tie.Need-returns-then-q-count-2
+returns-then-q-count-2 c =
+    fits_outside _ _ _ _ _ _ _ _ _ _ (fitting c.before.before.before.before.before) c.if-h-after.false (omega (arith, size c.before.before, c.if-q-count.false, c.if-q-count-2.true))
+
+layer_fits-requires : tie.Need-layer_fits-requires
+layer_fits-requires c κs = narrow c.before.before.before
+
+returns-then-not-layer_fits : tie.Need-returns-then-not-layer_fits
+returns-then-not-layer_fits c =
+    fits_target _ _ _ _ _ _ _ _ _ _ (fitting c.before.before.before.before.before.before.before) c.if-h-after.false (inside c.before.before)
+    (rw c.row_digits-bits.ensures at (sym c.layer_fits.ensures ∙ c.if-not-layer_fits.true))
+
+returns-then-after-eq0 : tie.Need-returns-then-after-eq0
+returns-then-after-eq0 c =
+    fits_last _ _ _ _ _ _ _ _ _ _ (fitting c.before.before.before.before.before.before.before.before) c.if-h-after.false (inside c.before.before.before) (target_in c.before) c.if-after-eq0.true
+
+layer_fits-requires-2 : tie.Need-layer_fits-requires-2
+layer_fits-requires-2 c κs = narrow c.before.before.before.before.before.before
+
 returns : tie.Need-returns
-returns c = fits_unfit _ _ _ _ _ _ _ _ _ _ (sym c.before.fits2.ensures ∙ not-true _ c.if1.true)
+returns c =
+    rw c.row_digits-bits.ensures at c.layer_fits-2.ensures
+    ∙ fits_source _ _ _ _ _ _ _ _ _ _ (fitting c.before.before.before.before.before.before.before.before.before) c.if-h-after.false (inside c.before.before.before.before) (target_in c.before.before) c.if-after-eq0.false
 
-returns-2 : tie.Need-returns-2
-returns-2 c = fits_past _ _ _ _ _ _ _ _ _ _ (fitting c.before) c.if2.true
-
-row-digits-requires : tie.Need-row-digits-requires
-row-digits-requires c κs = search rules
-
-layer-size-requires : tie.Need-layer-size-requires
-layer-size-requires c κs = narrow c
-
-returns-3 : tie.Need-returns-3
-returns-3 c =
-    let d = c.before.before.before in
-    fits_outside _ _ _ _ _ _ _ _ _ _ (fitting d.before) d.if2.false (omega (arith, size c.before, c.if3.true))
-
-returns-4 : tie.Need-returns-4
-returns-4 c =
-    let b = c.before in
-    let d = b.before.before.before in
-    fits_outside _ _ _ _ _ _ _ _ _ _ (fitting d.before) d.if2.false (omega (arith, size b.before, b.if3.false, c.if4.true))
-
-layer-fits-requires : tie.Need-layer-fits-requires
-layer-fits-requires c κs = narrow c.before.before.before
-
-returns-5 : tie.Need-returns-5
-returns-5 c =
-    let d = c.before.before in
-    let q = d.before.before.before in
-    fits_target _ _ _ _ _ _ _ _ _ _ (fitting q.before.before) q.before.if2.false (inside d)
-    (rw q.row-digits.ensures at (sym c.before.layer-fits.ensures ∙ not-true _ c.if5.true))
-
-returns-6 : tie.Need-returns-6
-returns-6 c =
-    let d = c.before.before.before in
-    let q = d.before.before.before in
-    fits_last _ _ _ _ _ _ _ _ _ _ (fitting q.before.before) q.before.if2.false (inside d) (target_in c.before) c.if6.true
-
-layer-fits-requires-2 : tie.Need-layer-fits-requires-2
-layer-fits-requires-2 c κs = narrow c.before.before.before.before.before.before
-
-returns-7 : tie.Need-returns-7
-returns-7 c =
-    let d = c.before.before.before.before in
-    let q = d.before.before.before in
-    rw q.row-digits.ensures at c.layer-fits2.ensures
-    ∙ fits_source _ _ _ _ _ _ _ _ _ _ (fitting q.before.before) q.before.if2.false (inside d) (target_in c.before.before) c.before.if6.false
-
-pub fill-fits-spec : {M : Type 1} → statement M
-fill-fits-spec =
-    tie.close
-    (tie.spec
-    fits-requires
-    returns
-    returns-2
-    row-digits-requires
-    layer-size-requires
-    returns-3
-    returns-4
-    layer-fits-requires
-    returns-5
-    returns-6
-    layer-fits-requires-2
-    returns-7)
+pub fill_fits_spec : {M : Type 1} → statement M
+fill_fits_spec = tie.close (tie.spec fits-requires returns-then-not-fits returns-then-h-after row_digits-bits-requires layer_size-q-requires returns-then-q-count returns-then-q-count-2 layer_fits-requires returns-then-not-layer_fits returns-then-after-eq0 layer_fits-requires-2 returns)

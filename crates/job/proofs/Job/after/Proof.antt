@@ -13,63 +13,45 @@ use Rattle.job.proofs.Job.after.Statement.{statement}
 use Rattle.job.proofs.Job.after.Tie as tie
 
 -- past the test the job runs
-running : (c : tie.Else1) → runs_within c.before.before.args.self ≡ true
-running c = sym c.before.is-running.ensures ∙ not-false _ c.if1.false
+running : (c : tie.Else-not-is_running) → runs_within c.args.self ≡ true
+running c = sym c.is_running.ensures ∙ c.if-not-is_running.false
 
-is-running-requires : tie.Need-is-running-requires
-is-running-requires c κs = search rules
+is_running-requires : tie.Need-is_running-requires
+is_running-requires c κs = search rules
 
-returns : tie.Need-returns
-returns c = after_never _ (sym c.before.is-running.ensures ∙ not-true _ c.if1.true) _
+returns-then-not-is_running : tie.Need-returns-then-not-is_running
+returns-then-not-is_running c = after_never _ (sym c.is_running.ensures ∙ c.if-not-is_running.true) _
 
-round-of-requires : tie.Need-round-of-requires
-round-of-requires c κs = let p = runs_within_lem c.before.before.args.self (running c) in (p.0, p.1)
+round_of-x-requires : tie.Need-round_of-x-requires
+round_of-x-requires c κs = let p = runs_within_lem c.args.self (running c) in (p.0, p.1)
 
 -- its units fit 64 bits
-after-entries-requires : tie.Need-after-entries-requires
-after-entries-requires c κs =
-    let r = c.before.before.before in
-    let s = r.before.before.before in
-    let p = runs_within_lem s.args.self (running r.before) in
-    let R = r.round-of.ensures in
-    let few = s.well-formed.0.1.1.1.1.1.1.0.1 in
-    let some : 1 ≤ r.round-of.result.left = omega (arith, c.before.if2.true) in
+after_entries-requires : tie.Need-after_entries-requires
+after_entries-requires c κs =
+    let p = runs_within_lem c.args.self (running c.before.before.before.before) in
+    let R = c.round_of-x.ensures in
+    let few = c.well-formed.0.1.1.1.1.1.1.0.1 in
+    let some : 1 ≤ c.round_of-x.result.left = omega (arith, c.if-x-ne0.true) in
     (units_on R p.0 p.1 few 1 some, sym (fills_on R 1 some))
 
-returns-2 : tie.Need-returns-2
-returns-2 c =
-    let r = c.before.before.before.before in
-    c.after-entries.ensures ∙ after_fills_lem _ (running r.before) r.round-of.ensures _ c.before.before.if2.true
+returns-then-x-ne0 : tie.Need-returns-then-x-ne0
+returns-then-x-ne0 c =
+    c.after_entries.ensures ∙ after_fills_lem _ (running c.before.before.before.before.before) c.round_of-x.ensures _ c.if-x-ne0.true
 
-after-choice-requires : tie.Need-after-choice-requires
-after-choice-requires c κs =
-    let f = c.before.before.before in
-    let r = f.before.before in
-    let e = running r.before in
-    let p = runs_within_lem r.before.before.before.args.self e in
-    let R = r.round-of.ensures in
-    (p.0, p.1, rows_left R c.if3.true, rows_early r.before.before.before.args.self R f.if2.false c.if3.true)
+after_choice-requires : tie.Need-after_choice-requires
+after_choice-requires c κs =
+    let e = running c.before.before.before.before.before.before in
+    let p = runs_within_lem c.args.self e in
+    let R = c.round_of-x.ensures in
+    (p.0, p.1, rows_left R c.if-x-job.true, rows_early c.args.self R c.if-x-ne0.false c.if-x-job.true)
 
-returns-3 : tie.Need-returns-3
-returns-3 c =
-    let f = c.before.before.before.before in
-    let r = f.before.before in
-    c.after-choice.ensures ∙ after_chooses _ (running r.before) r.round-of.ensures _ f.if2.false c.before.if3.true
+returns-then-x-job : tie.Need-returns-then-x-job
+returns-then-x-job c =
+    c.after_choice.ensures ∙ after_chooses _ (running c.before.before.before.before.before.before.before) c.round_of-x.ensures _ c.if-x-ne0.false c.if-x-job.true
 
-returns-4 : tie.Need-returns-4
-returns-4 c =
-    let r = c.before.before.before.before.before in
-    after_spent _ (running r.before) r.round-of.ensures _ c.if3.false
+returns : tie.Need-returns
+returns c =
+    after_spent _ (running c.before.before.before.before.before.before) c.round_of-x.ensures _ c.if-x-job.false
 
-pub after-spec : {M : Type 1} → statement M
-after-spec =
-    tie.close
-    (tie.spec
-    is-running-requires
-    returns
-    round-of-requires
-    after-entries-requires
-    returns-2
-    after-choice-requires
-    returns-3
-    returns-4)
+pub after_spec : {M : Type 1} → statement M
+after_spec = tie.close (tie.spec is_running-requires returns-then-not-is_running round_of-x-requires after_entries-requires returns-then-x-ne0 after_choice-requires returns-then-x-job returns)

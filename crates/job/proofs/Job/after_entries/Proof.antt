@@ -11,45 +11,33 @@ use Rattle.job.proofs.Job.after_entries.Statement.{statement}
 use Rattle.job.proofs.Job.after_entries.Tie as tie
 
 -- past the test the job runs
-running : (c : tie.Else1) → runs_within c.before.before.args.self ≡ true
-running c = sym c.before.is-running.ensures ∙ not-false _ c.if1.false
+running : (c : tie.Else-not-is_running) → runs_within c.args.self ≡ true
+running c = sym c.is_running.ensures ∙ c.if-not-is_running.false
 
-is-running-requires : tie.Need-is-running-requires
-is-running-requires c κs = search rules
+is_running-requires : tie.Need-is_running-requires
+is_running-requires c κs = search rules
 
-returns : tie.Need-returns
-returns c = entries_never _ _ (sym c.before.is-running.ensures ∙ not-true _ c.if1.true)
+returns-then-not-is_running : tie.Need-returns-then-not-is_running
+returns-then-not-is_running c = entries_never _ _ (sym c.is_running.ensures ∙ c.if-not-is_running.true)
 
-round-of-requires : tie.Need-round-of-requires
-round-of-requires c κs = let p = runs_within_lem c.before.before.args.self (running c) in (p.0, p.1)
+round_of-x-requires : tie.Need-round_of-x-requires
+round_of-x-requires c κs = let p = runs_within_lem c.args.self (running c) in (p.0, p.1)
 
-returns-2 : tie.Need-returns-2
-returns-2 c =
-    let r = c.before.before in
-    entries_few _ _ (running r.before) r.round-of.ensures c.if2.true
+returns-then-x-count : tie.Need-returns-then-x-count
+returns-then-x-count c =
+    entries_few _ _ (running c.before.before.before) c.round_of-x.ensures c.if-x-count.true
 
 -- its units fit 64 bits
-after-entries-requires : tie.Need-after-entries-requires
-after-entries-requires c κs =
-    let r = c.before.before.before in
-    let s = r.before.before.before in
-    let p = runs_within_lem s.args.self (running r.before) in
-    let R = r.round-of.ensures in
-    let few = s.well-formed.0.1.1.1.1.1.1.0.1 in
-    (units_on R p.0 p.1 few _ c.before.if2.false, sym (fills_on R _ c.before.if2.false))
+after_entries-requires : tie.Need-after_entries-requires
+after_entries-requires c κs =
+    let p = runs_within_lem c.args.self (running c.before.before.before.before) in
+    let R = c.round_of-x.ensures in
+    let few = c.well-formed.0.1.1.1.1.1.1.0.1 in
+    (units_on R p.0 p.1 few _ c.if-x-count.false, sym (fills_on R _ c.if-x-count.false))
 
-returns-3 : tie.Need-returns-3
-returns-3 c =
-    let r = c.before.before.before.before in
-    c.after-entries.ensures ∙ entries_left _ _ (running r.before) r.round-of.ensures c.before.before.if2.false
+returns : tie.Need-returns
+returns c =
+    c.after_entries.ensures ∙ entries_left _ _ (running c.before.before.before.before.before) c.round_of-x.ensures c.if-x-count.false
 
-pub after-entries-spec : {M : Type 1} → statement M
-after-entries-spec =
-    tie.close
-    (tie.spec
-    is-running-requires
-    returns
-    round-of-requires
-    returns-2
-    after-entries-requires
-    returns-3)
+pub after_entries_spec : {M : Type 1} → statement M
+after_entries_spec = tie.close (tie.spec is_running-requires returns-then-not-is_running round_of-x-requires returns-then-x-count after_entries-requires returns)

@@ -10,20 +10,20 @@ use Rattle.job.proofs.Job.task.Statement.{statement}
 use Rattle.job.proofs.Job.task.Tie as tie
 
 -- past the test the job runs
-running : (c : tie.Else1) → runs_within c.before.before.args.self ≡ true
-running c = sym c.before.is-running.ensures ∙ not-false _ c.if1.false
+running : (c : tie.Else-not-is_running) → runs_within c.args.self ≡ true
+running c = sym c.is_running.ensures ∙ c.if-not-is_running.false
 
-is-running-requires : tie.Need-is-running-requires
-is-running-requires c κs = search rules
+is_running-requires : tie.Need-is_running-requires
+is_running-requires c κs = search rules
+
+returns-then-not-is_running : tie.Need-returns-then-not-is_running
+returns-then-not-is_running c = sym (due_never _ (sym c.is_running.ensures ∙ c.if-not-is_running.true))
+
+task_at-requires : tie.Need-task_at-requires
+task_at-requires c κs = let p = runs_within_lem c.args.self (running c) in (p.0, p.1)
 
 returns : tie.Need-returns
-returns c = sym (due_never _ (sym c.before.is-running.ensures ∙ not-true _ c.if1.true))
+returns c = c.task_at.ensures ∙ sym (due_while _ (running c.before))
 
-task-at-requires : tie.Need-task-at-requires
-task-at-requires c κs = let p = runs_within_lem c.before.before.args.self (running c) in (p.0, p.1)
-
-returns-2 : tie.Need-returns-2
-returns-2 c = c.task-at.ensures ∙ sym (due_while _ (running c.before))
-
-pub task-spec : {M : Type 1} → statement M
-task-spec = tie.close (tie.spec is-running-requires returns task-at-requires returns-2)
+pub task_spec : {M : Type 1} → statement M
+task_spec = tie.close (tie.spec is_running-requires returns-then-not-is_running task_at-requires returns)

@@ -20,140 +20,106 @@ use Rattle.job.proofs.numbers.checkpoint_fits.Statement.{statement}
 use Rattle.job.proofs.numbers.checkpoint_fits.Tie as tie
 
 -- what each test that is passed shows
-of_at : (c : tie.Else1) → let a = c.before.before.before.args in eqb a.t.kind (kind_number a.kind) ≡ true
-of_at c = eq-eqb _ _ (c.if1.false ∙ c.before.before.number.ensures)
+of_at : (c : tie.Else-t-number) → let a = c.args in eqb a.t.kind (kind_number a.kind) ≡ true
+of_at c = eq-eqb _ _ (c.if-t-number.false ∙ c.number.ensures)
 
-frame_at : (c : tie.After-enum-told2) → let a = c.before.before.before.before.before.before.before.before.args in Frame a.kind (rule_of a.t) a.t.width a.t.height
-frame_at c = frame_of _ _ _ _ (let_through (rw (c.before.before.before.rule-of.ensures, c.before.before.before.before.halves.ensures) at c.before.before.check.ensures) c.enum-told2.given.1)
+frame_at : (c : tie.In_default) → let a = c.args in Frame a.kind (rule_of a.t) a.t.width a.t.height
+frame_at c = frame_of _ _ _ _ (let_through (rw (c.rule_of.ensures, c.halves.ensures) at c.check.ensures) c.in_default.is)
 
-size_at : (c : tie.After-enum-told2) → let a = c.before.before.before.before.before.before.before.before.args in SizedBy (halves_of a.kind) a.t.width a.t.height
+size_at : (c : tie.In_default) → let a = c.args in SizedBy (halves_of a.kind) a.t.width a.t.height
 size_at c = (frame_at c).size
 
-over_at : (c : tie.Else2) → let a = c.before.before.before.before.before.before.before.before.before.before.before.args in ltb a.t.above (2 ^ kind_digits a.kind a.t.width) ≡ true
-over_at c = lt-ltb _ _ (shift_none _ _ (rw c.before.before.row-digits.ensures at c.if2.false))
+over_at : (c : tie.Else-t-digits-ne0) → let a = c.args in ltb a.t.above (2 ^ kind_digits a.kind a.t.width) ≡ true
+over_at c = lt-ltb _ _ (shift_none _ _ (rw c.row_digits-digits.ensures at c.if-t-digits-ne0.false))
 
-below_at : (c : tie.Else3) → let a = c.before.before.before.before.before.before.before.before.before.before.before.before.before.args in ltb a.t.last (2 ^ kind_digits a.kind a.t.width) ≡ true
-below_at c = lt-ltb _ _ (shift_none _ _ (rw c.before.before.before.before.row-digits.ensures at c.if3.false))
+below_at : (c : tie.Else-t-digits-ne0-2) → let a = c.args in ltb a.t.last (2 ^ kind_digits a.kind a.t.width) ≡ true
+below_at c = lt-ltb _ _ (shift_none _ _ (rw c.row_digits-digits.ensures at c.if-t-digits-ne0-2.false))
 
-units_at : (c : tie.Else4) → let a = c.before.before.before.before.before.before.before.before.before.before.before.before.before.before.before.before.args in units_fit (shape_of a.kind a.t.width a.t.height) a.t.units a.t.mark ≡ true
-units_at c = sym c.before.units-fit.ensures ∙ not-false _ c.if4.false
+units_at : (c : tie.Else-not-units_fit) → let a = c.args in units_fit (shape_of a.kind a.t.width a.t.height) a.t.units a.t.mark ≡ true
+units_at c = sym c.units_fit.ensures ∙ c.if-not-units_fit.false
 
 number-requires : tie.Need-number-requires
 number-requires c κs = search rules
 
-returns : tie.Need-returns
+returns-then-t-number : tie.Need-returns-then-t-number
 unfolding checkpoint_fits
-returns c = simp (ne_eqb _ _ (rw c.before.before.number.ensures at c.if1.true))
+returns-then-t-number c = simp (ne_eqb _ _ (rw c.number.ensures at c.if-t-number.true))
 
 halves-requires : tie.Need-halves-requires
 halves-requires c κs = search rules
 
-rule-of-requires : tie.Need-rule-of-requires
-rule-of-requires c κs = search rules
+rule_of-requires : tie.Need-rule_of-requires
+rule_of-requires c κs = search rules
 
 check-requires : tie.Need-check-requires
 check-requires c κs = search rules
 
-enum_told : tie.Need-enum-told
-enum_told c = search rules
+enum_told-1 : tie.Need-enum_told-1
+enum_told-1 c = search rules
 
-returns-2 : tie.Need-returns-2
+returns-in-Refused : tie.Need-returns-in-Refused
 unfolding checkpoint_fits numbers_fit
-returns-2 c =
-    let a = c.before.before.before.before.before.before.before.before.args in
+returns-in-Refused c =
+    let a = c.args in
     simp (
-      of_at c.before.before.before.before.before,
+      of_at c.before.before.before.before,
       frame_misfits a.kind (rule_of a.t) a.t.width a.t.height
-          (sym (rw (c.before.before.before.rule-of.ensures, c.before.before.before.before.halves.ensures) at c.before.before.check.ensures) ∙ ap check_says c.enum_told.given.1),
+          (sym (rw (c.rule_of.ensures, c.halves.ensures) at c.check.ensures) ∙ ap check_says c.in-Refused.is),
     )
 
-enum-told-2 : tie.Need-enum-told-2
-enum-told-2 c = search rules
+enum_told-in_default : tie.Need-enum_told-in_default
+enum_told-in_default c = search rules
 
-row-digits-requires : tie.Need-row-digits-requires
-row-digits-requires c κs = search rules
+row_digits-digits-requires : tie.Need-row_digits-digits-requires
+row_digits-digits-requires c κs = search rules
 
-shr-if2 : tie.Need-overflow-shr-if2
-shr-if2 c = rw c.before.row-digits.ensures (omega (arith, (size_at c.before.before).width.narrow))
+overflow_shr-t : tie.Need-overflow_shr-t
+overflow_shr-t c = rw c.row_digits-digits.ensures (omega (arith, (size_at c.before.before).width.narrow))
 
-returns-3 : tie.Need-returns-3
+returns-then-t-digits-ne0 : tie.Need-returns-then-t-digits-ne0
 unfolding checkpoint_fits numbers_fit
-returns-3 c =
-    let r = c.before.before in
-    let d = r.before in
-    simp (of_at d.before.before.before.before.before, frame_fits (frame_at d), le-ltb _ _ (shift_some _ _ (rw r.row-digits.ensures at c.if2.true)))
+returns-then-t-digits-ne0 c =
+    simp (of_at c.before.before.before.before.before.before.before, frame_fits (frame_at c.before.before.before), le-ltb _ _ (shift_some _ _ (rw c.row_digits-digits.ensures at c.if-t-digits-ne0.true)))
 
-shr-if3 : tie.Need-overflow-shr-if3
-shr-if3 c = rw c.before.before.before.row-digits.ensures (omega (arith, (size_at c.before.before.before.before).width.narrow))
+overflow_shr-t-2 : tie.Need-overflow_shr-t-2
+overflow_shr-t-2 c = rw c.row_digits-digits.ensures (omega (arith, (size_at c.before.before.before.before).width.narrow))
 
-returns-4 : tie.Need-returns-4
+returns-then-t-digits-ne0-2 : tie.Need-returns-then-t-digits-ne0-2
 unfolding checkpoint_fits numbers_fit
-returns-4 c =
-    let e = c.before.before in
-    let r = e.before.before in
-    let d = r.before in
-    simp (of_at d.before.before.before.before.before, frame_fits (frame_at d), over_at e, le-ltb _ _ (shift_some _ _ (rw r.row-digits.ensures at c.if3.true)))
+returns-then-t-digits-ne0-2 c =
+    simp (of_at c.before.before.before.before.before.before.before.before.before, frame_fits (frame_at c.before.before.before.before.before), over_at c.before.before, le-ltb _ _ (shift_some _ _ (rw c.row_digits-digits.ensures at c.if-t-digits-ne0-2.true)))
 
-round-of-requires : tie.Need-round-of-requires
-round-of-requires c κs = let s = size_at c.before.before.before.before.before in (s.width, s.low)
+round_of-x-requires : tie.Need-round_of-x-requires
+round_of-x-requires c κs = let s = size_at c.before.before.before.before.before in (s.width, s.low)
 
-units-fit-requires : tie.Need-units-fit-requires
-units-fit-requires c κs = let s = size_at c.before.before.before.before.before.before in (s.width, s.low, c.round-of.ensures)
+units_fit-requires : tie.Need-units_fit-requires
+units_fit-requires c κs = let s = size_at c.before.before.before.before.before.before in (s.width, s.low, c.round_of-x.ensures)
 
-returns-5 : tie.Need-returns-5
+returns-then-not-units_fit : tie.Need-returns-then-not-units_fit
 unfolding checkpoint_fits numbers_fit
-returns-5 c =
-    let g = c.before.before.before in
-    let e = g.before.before in
-    let d = e.before.before.before in
+returns-then-not-units_fit c =
     simp (
-      of_at d.before.before.before.before.before,
-      frame_fits (frame_at d),
-      over_at e,
-      below_at g,
-      sym c.before.units-fit.ensures ∙ not-true _ c.if4.true,
+      of_at c.before.before.before.before.before.before.before.before.before.before.before.before,
+      frame_fits (frame_at c.before.before.before.before.before.before.before.before),
+      over_at c.before.before.before.before.before,
+      below_at c.before.before.before,
+      sym c.units_fit.ensures ∙ c.if-not-units_fit.true,
     )
 
-rows-chosen-requires : tie.Need-rows-chosen-requires
-rows-chosen-requires c κs =
-    let r = c.before.before in
-    ((size_at r.before.before.before.before.before.before).some_row, r.round-of.ensures, units_at c)
+rows_chosen-k-requires : tie.Need-rows_chosen-k-requires
+rows_chosen-k-requires c κs =
+    ((size_at c.before.before.before.before.before.before.before.before).some_row, c.round_of-x.ensures, units_at c)
 
-rows-fit-requires : tie.Need-rows-fit-requires
-rows-fit-requires c κs =
+rows_fit-requires : tie.Need-rows_fit-requires
+rows_fit-requires c κs =
     let s = size_at c.before.before.before.before.before.before.before.before.before in
-    (width_le _ _ s.width, omega (arith, c.rows-chosen.ensures.1, s.low))
+    (width_le _ _ s.width, omega (arith, c.rows_chosen-k.ensures.1, s.low))
 
-returns-6 : tie.Need-returns-6
+returns : tie.Need-returns
 unfolding checkpoint_fits numbers_fit
-returns-6 c =
-    let u = c.before.before in
-    let g = u.before.before.before in
-    let e = g.before.before in
-    let d = e.before.before.before in
-    rw (c.rows_fit.ensures, c.before.rows-chosen.ensures.0)
-    (simp (of_at d.before.before.before.before.before, frame_fits (frame_at d), over_at e, below_at g, units_at u))
+returns c =
+    rw (c.rows_fit.ensures, c.rows_chosen-k.ensures.0)
+    (simp (of_at c.before.before.before.before.before.before.before.before.before.before.before.before.before.before, frame_fits (frame_at c.before.before.before.before.before.before.before.before.before.before), over_at c.before.before.before.before.before.before.before, below_at c.before.before.before.before.before, units_at c.before.before))
 
-pub checkpoint-fits-spec : {M : Type 1} → statement M
-checkpoint-fits-spec =
-    tie.close
-    (tie.spec
-    number-requires
-    returns
-    halves-requires
-    rule-of-requires
-    check-requires
-    enum_told
-    returns-2
-    enum-told-2
-    row-digits-requires
-    shr-if2
-    returns-3
-    shr-if3
-    returns-4
-    round-of-requires
-    units-fit-requires
-    returns-5
-    rows-chosen-requires
-    rows-fit-requires
-    returns-6)
+pub checkpoint_fits_spec : {M : Type 1} → statement M
+checkpoint_fits_spec = tie.close (tie.spec number-requires returns-then-t-number halves-requires rule_of-requires check-requires enum_told-1 returns-in-Refused enum_told-in_default row_digits-digits-requires overflow_shr-t returns-then-t-digits-ne0 overflow_shr-t-2 returns-then-t-digits-ne0-2 round_of-x-requires units_fit-requires returns-then-not-units_fit rows_chosen-k-requires rows_fit-requires returns)

@@ -10,27 +10,25 @@ use Rattle.job.proofs.numbers.job_fits.Statement.{statement}
 use Rattle.job.proofs.numbers.job_fits.Tie as tie
 
 -- past the test the numbers fit
-numbers_fit_lem : (c : tie.Else1) → checkpoint_fits c.before.before.before.args.job.kind (numbers_of c.before.before.before.args.job) ≡ true
-numbers_fit_lem c = rw c.before.before.numbers_of.ensures at (sym c.before.checkpoint-fits.ensures ∙ not-false _ c.if1.false)
+numbers_fit_lem : (c : tie.Else-not-checkpoint_fits) → checkpoint_fits c.args.job.kind (numbers_of c.args.job) ≡ true
+numbers_fit_lem c = rw c.numbers_of.ensures at (sym c.checkpoint_fits.ensures ∙ c.if-not-checkpoint_fits.false)
 
-numbers-of-requires : tie.Need-numbers-of-requires
-numbers-of-requires c κs = search rules
+numbers_of-requires : tie.Need-numbers_of-requires
+numbers_of-requires c κs = search rules
 
-checkpoint-fits-requires : tie.Need-checkpoint-fits-requires
-checkpoint-fits-requires c κs = search rules
+checkpoint_fits-requires : tie.Need-checkpoint_fits-requires
+checkpoint_fits-requires c κs = search rules
+
+returns-then-not-checkpoint_fits : tie.Need-returns-then-not-checkpoint_fits
+unfolding job_fits
+returns-then-not-checkpoint_fits c = simp (rw c.numbers_of.ensures at (sym c.checkpoint_fits.ensures ∙ c.if-not-checkpoint_fits.true))
+
+stage_fits-requires : tie.Need-stage_fits-requires
+stage_fits-requires c κs = let s = (numbers_at _ _ (numbers_fit_lem c)).frame.size in (s.width, s.low)
 
 returns : tie.Need-returns
 unfolding job_fits
-returns c = simp (rw c.before.before.numbers_of.ensures at (sym c.before.checkpoint-fits.ensures ∙ not-true _ c.if1.true))
+returns c = simp (numbers_fit_lem c.before, c.stage_fits.ensures)
 
-stage-fits-requires : tie.Need-stage-fits-requires
-stage-fits-requires c κs = let s = (numbers_at _ _ (numbers_fit_lem c)).frame.size in (s.width, s.low)
-
-returns-2 : tie.Need-returns-2
-unfolding job_fits
-returns-2 c = simp (numbers_fit_lem c.before, c.stage-fits.ensures)
-
-pub job-fits-spec : {M : Type 1} → statement M
-job-fits-spec =
-    tie.close
-    (tie.spec numbers-of-requires checkpoint-fits-requires returns stage-fits-requires returns-2)
+pub job_fits_spec : {M : Type 1} → statement M
+job_fits_spec = tie.close (tie.spec numbers_of-requires checkpoint_fits-requires returns-then-not-checkpoint_fits stage_fits-requires returns)

@@ -12,27 +12,27 @@ use Rattle.job.proofs.numbers.rows_fit.Statement.{statement}
 use Rattle.job.proofs.numbers.rows_fit.Tie as tie
 
 -- past the second test the last row is 0 where no row is chosen
-last_fits : (c : tie.Joined2) → cond (eqb c.before.before.args.k 0) (eqb c.before.before.args.last 0) true ≡ true
-last_fits c = ⊎_elim (λ w. simp (w.0.taken, w.1.left)) (λ w. simp (ne_eqb _ 0 w.left)) c.if2.branch
+last_fits : (c : tie.Joined-k-eq0) → cond (eqb c.args.k 0) (eqb c.args.last 0) true ≡ true
+last_fits c = ⊎_elim (λ w. simp (w.0.taken, w.1.left)) (λ w. simp (ne_eqb _ 0 w.left)) c.if-k-eq0.branch
 
-mul-if1 : tie.Need-overflow-mul-if1
-mul-if1 c = omega (arith, mul-le-mul c.requires.0 c.requires.1)
+overflow_mul-w : tie.Need-overflow_mul-w
+overflow_mul-w c = omega (arith, mul-le-mul c.requires.0 c.requires.1)
 
-returns : tie.Need-returns
+returns-then-w-k : tie.Need-returns-then-w-k
 unfolding rows_fit
-returns c = simp (lt-leb _ _ c.if1.true)
+returns-then-w-k c = simp (lt-leb _ _ c.if-w-k.true)
 
-returns-2 : tie.Need-returns-2
+returns-then-last-ne0 : tie.Need-returns-then-last-ne0
 unfolding rows_fit
-returns-2 c = simp (le-leb _ _ c.before.before.if1.false, eq-eqb _ 0 c.before.if2.true, ne_eqb _ 0 c.if3.true)
+returns-then-last-ne0 c = simp (le-leb _ _ c.if-w-k.false, eq-eqb _ 0 c.if-k-eq0.true, ne_eqb _ 0 c.if-last-ne0.true)
 
-returns-3 : tie.Need-returns-3
+returns-then-k-lt2 : tie.Need-returns-then-k-lt2
 unfolding rows_fit
-returns-3 c = simp (le-leb _ _ c.before.before.if1.false, last_fits c.before, lt-ltb _ 2 c.if4.true)
+returns-then-k-lt2 c = simp (le-leb _ _ c.if-w-k.false, last_fits c.before, lt-ltb _ 2 c.if-k-lt2.true)
 
-returns-4 : tie.Need-returns-4
+returns-else-k-lt2 : tie.Need-returns-else-k-lt2
 unfolding rows_fit
-returns-4 c = simp (le-leb _ _ c.before.before.if1.false, last_fits c.before, le-ltb _ 2 c.if4.false)
+returns-else-k-lt2 c = simp (le-leb _ _ c.if-w-k.false, last_fits c.before, le-ltb _ 2 c.if-k-lt2.false)
 
-pub rows-fit-spec : {M : Type 1} → statement M
-rows-fit-spec = tie.close (tie.spec mul-if1 returns returns-2 returns-3 returns-4)
+pub rows_fit_spec : {M : Type 1} → statement M
+rows_fit_spec = tie.close (tie.spec overflow_mul-w returns-then-w-k returns-then-last-ne0 returns-then-k-lt2 returns-else-k-lt2)

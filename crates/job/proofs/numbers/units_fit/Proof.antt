@@ -12,41 +12,39 @@ use Rattle.job.proofs.Rounds.{runs_same, ends_not, ends_same}
 use Rattle.job.proofs.numbers.units_fit.Statement.{statement}
 use Rattle.job.proofs.numbers.units_fit.Tie as tie
 
-size_is : (c : tie.After-table-size) → let a = c.before.before.before.args in c.table-size.result ≡ table_size (kind_digits a.kind a.w) a.h
+size_is : (c : tie.After-table_size) → let a = c.args in c.table_size.result ≡ table_size (kind_digits a.kind a.w) a.h
 size_is c =
-    let p = c.before.before.before.requires in
-    rw c.before.row-digits.ensures at c.table-size.ensures ∙ table_within p.0.narrow p.1
+    let p = c.requires in
+    rw c.row_digits.ensures at c.table_size.ensures ∙ table_within p.0.narrow p.1
 
-row-digits-requires : tie.Need-row-digits-requires
-row-digits-requires c κs = search rules
-
-returns : tie.Need-returns
+returns-then-x-h : tie.Need-returns-then-x-h
 unfolding units_fit
-returns c = let m = c.before.before in simp (m.match.keys2, ends_not m.before.requires.2 c.if1.true)
+returns-then-x-h c = simp (c.in-1.is, ends_not c.requires.2 c.if-x-h.true)
 
-table-size-requires : tie.Need-table-size-requires
-table-size-requires c κs = search rules
+row_digits-requires : tie.Need-row_digits-requires
+row_digits-requires c κs = search rules
 
-add-result : tie.Need-overflow-add-result
-add-result c = let p = c.before.before.before.requires in rw (size_is c) (omega (arith, table_le p.0.narrow p.1))
+table_size-requires : tie.Need-table_size-requires
+table_size-requires c κs = search rules
 
-returns-2 : tie.Need-returns-2
+overflow_add-result : tie.Need-overflow_add-result
+overflow_add-result c = let p = c.requires in rw (size_is c) (omega (arith, table_le p.0.narrow p.1))
+
+returns-in-0 : tie.Need-returns-in-0
 unfolding units_fit
-returns-2 c = let m = c.before in simp m.match.keys1 (runs_same m.before.requires.2)
+returns-in-0 c = simp c.in-0.is (runs_same c.requires.2)
 
-returns-3 : tie.Need-returns-3
+returns-else-x-h : tie.Need-returns-else-x-h
 unfolding units_fit
-returns-3 c = let m = c.before.before.before in simp m.match.keys2 (ends_same m.before.requires.2 c.before.if1.false)
+returns-else-x-h c = simp c.in-1.is (ends_same c.requires.2 c.if-x-h.false)
 
-returns-4 : tie.Need-returns-4
+returns-in-2 : tie.Need-returns-in-2
 unfolding units_fit table_size
-returns-4 c = rw (size_is c) (simp c.before.before.match.keys3)
+returns-in-2 c = rw (size_is c) (simp c.in-2.is)
 
-returns-5 : tie.Need-returns-5
+returns-in_default : tie.Need-returns-in_default
 unfolding units_fit
-returns-5 c = simp (ne_eqb _ 0 c.match.rest.0.0.1, ne_eqb _ 1 c.match.rest.0.1, ne_eqb _ 2 c.match.rest.1)
+returns-in_default c = simp (ne_eqb _ 0 c.in_default.in_default-own.rest.0.0.1, ne_eqb _ 1 c.in_default.in_default-own.rest.0.1, ne_eqb _ 2 c.in_default.in_default-own.rest.1)
 
-pub units-fit-spec : {M : Type 1} → statement M
-units-fit-spec =
-    tie.close
-    (tie.spec returns row-digits-requires table-size-requires add-result returns-2 returns-3 returns-4 returns-5)
+pub units_fit_spec : {M : Type 1} → statement M
+units_fit_spec = tie.close (tie.spec returns-then-x-h row_digits-requires table_size-requires overflow_add-result returns-in-0 returns-else-x-h returns-in-2 returns-in_default)

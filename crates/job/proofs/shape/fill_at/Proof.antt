@@ -10,52 +10,41 @@ use Rattle.job_kind.specs.Kinds.{kind_digits}
 use Rattle.job.proofs.shape.fill_at.Statement.{statement}
 use Rattle.job.proofs.shape.fill_at.Tie as tie
 
-layer : (c : tie.After-entries) → c.entries.result ≡ 4 ^ kind_digits c.before.args.kind c.before.args.w
-layer c = c.entries.ensures.0 ∙ one-mul _
+layer : (c : tie.After-entries-q) → c.entries-q.result ≡ 4 ^ kind_digits c.args.kind c.args.w
+layer c = c.entries-q.ensures.0 ∙ one-mul _
 
-some : (c : tie.After-entries) → 0 < c.entries.result
+some : (c : tie.After-entries-q) → 0 < c.entries-q.result
 some c = rw (layer c) (four_pos _)
 
-fewer : (c : tie.After-entries) → c.before.args.place / c.entries.result < c.before.args.h
-fewer c = rw (layer c) ((div-lt_iff_lt-mul (four_pos _)).1 c.before.requires.2)
+fewer : (c : tie.After-entries-q) → c.args.place / c.entries-q.result < c.args.h
+fewer c = rw (layer c) ((div-lt_iff_lt-mul (four_pos _)).1 c.requires.2)
 
-entries-requires : tie.Need-entries-requires
-entries-requires c κs = search rules
+entries-q-requires : tie.Need-entries-q-requires
+entries-q-requires c κs = search rules
 
-div-after : tie.Need-nonzero-div-after
-div-after c = some c
+nonzero_div-after : tie.Need-nonzero_div-after
+nonzero_div-after c = some c
 
-sub-layer-start : tie.Need-overflow-sub-layer-start
-sub-layer-start c = omega (arith, fewer c)
+overflow_sub-h : tie.Need-overflow_sub-h
+overflow_sub-h c = omega (arith, fewer c)
 
-layer-start-requires : tie.Need-layer-start-requires
-layer-start-requires c κs = search rules
+layer_start-source-requires : tie.Need-layer_start-source-requires
+layer_start-source-requires c κs = search rules
 
-sub-layer-start-2 : tie.Need-overflow-sub-layer-start-2
-sub-layer-start-2 c = omega (arith, fewer c.before)
+overflow_sub-h-2 : tie.Need-overflow_sub-h-2
+overflow_sub-h-2 c = omega (arith, fewer c.before)
 
-sub-layer-start-3 : tie.Need-overflow-sub-layer-start-3
-sub-layer-start-3 c = omega (arith, fewer c.before)
+overflow_sub-h-3 : tie.Need-overflow_sub-h-3
+overflow_sub-h-3 c = omega (arith, fewer c.before)
 
-layer-start-requires-2 : tie.Need-layer-start-requires-2
-layer-start-requires-2 c κs = search rules
+layer_start-target-requires : tie.Need-layer_start-target-requires
+layer_start-target-requires c κs = search rules
 
-rem-entry : tie.Need-nonzero-rem-entry
-rem-entry c = some c.before.before
+nonzero_rem-entry : tie.Need-nonzero_rem-entry
+nonzero_rem-entry c = some c.before.before
 
 returns : tie.Need-returns
-returns c = rw (c.before.layer-start.ensures, c.layer-start2.ensures, layer c.before.before)
+returns c = rw (c.layer_start-source.ensures, c.layer_start-target.ensures, layer c.before.before)
 
-pub fill-at-spec : {M : Type 1} → statement M
-fill-at-spec =
-    tie.close
-    (tie.spec
-    entries-requires
-    div-after
-    sub-layer-start
-    layer-start-requires
-    sub-layer-start-2
-    sub-layer-start-3
-    layer-start-requires-2
-    rem-entry
-    returns)
+pub fill_at_spec : {M : Type 1} → statement M
+fill_at_spec = tie.close (tie.spec entries-q-requires nonzero_div-after overflow_sub-h layer_start-source-requires overflow_sub-h-2 overflow_sub-h-3 layer_start-target-requires nonzero_rem-entry returns)

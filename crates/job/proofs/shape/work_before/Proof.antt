@@ -10,45 +10,35 @@ use Rattle.job.proofs.shape.work_before.Statement.{statement}
 use Rattle.job.proofs.shape.work_before.Tie as tie
 
 -- past the test the whole table is filled
-once : (c : tie.Else1) → refills c.before.before.args.kind ≡ false
-once c = sym c.before.refills.ensures ∙ c.if1.false
+once : (c : tie.Else-refills) → refills c.args.kind ≡ false
+once c = sym c.refills.ensures ∙ c.if-refills.false
 
 refills-requires : tie.Need-refills-requires
 refills-requires c κs = search rules
 
-sub-entries : tie.Need-overflow-sub-entries
-sub-entries c = search rules
+overflow_sub-h : tie.Need-overflow_sub-h
+overflow_sub-h c = search rules
 
 entries-requires : tie.Need-entries-requires
 entries-requires c κs = search rules
 
-returns : tie.Need-returns
-returns c =
+returns-then-refills : tie.Need-returns-then-refills
+returns-then-refills c =
     let E = c.entries.ensures in
-    let b = c.before.before in
-    let a = b.before.args in
-    (E.0 ∙ work_again a.kind a.w a.h a.r (sym b.refills.ensures ∙ c.before.if1.true), E.1)
+    let a = c.args in
+    (E.0 ∙ work_again a.kind a.w a.h a.r (sym c.refills.ensures ∙ c.if-refills.true), E.1)
 
-returns-2 : tie.Need-returns-2
-returns-2 c = let a = c.before.before.before.args in (work_later a.kind a.w a.h a.r (once c.before) c.if2.true, omega arith)
+returns-then-r-ne0 : tie.Need-returns-then-r-ne0
+returns-then-r-ne0 c = let a = c.args in (work_later a.kind a.w a.h a.r (once c.before) c.if-r-ne0.true, omega arith)
 
 entries-requires-2 : tie.Need-entries-requires-2
 entries-requires-2 c κs = search rules
 
-returns-3 : tie.Need-returns-3
-returns-3 c =
-    let E = c.entries2.ensures in
-    let a = c.before.before.before.before.args in
-    (E.0 ∙ work_first a.kind a.w a.h a.r (once c.before.before) c.before.if2.false, E.1)
+returns : tie.Need-returns
+returns c =
+    let E = c.entries-2.ensures in
+    let a = c.args in
+    (E.0 ∙ work_first a.kind a.w a.h a.r (once c.before.before) c.if-r-ne0.false, E.1)
 
-pub work-before-spec : {M : Type 1} → statement M
-work-before-spec =
-    tie.close
-    (tie.spec
-    refills-requires
-    sub-entries
-    entries-requires
-    returns
-    returns-2
-    entries-requires-2
-    returns-3)
+pub work_before_spec : {M : Type 1} → statement M
+work_before_spec = tie.close (tie.spec refills-requires overflow_sub-h entries-requires returns-then-refills returns-then-r-ne0 entries-requires-2 returns)

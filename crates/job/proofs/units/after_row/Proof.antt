@@ -16,87 +16,66 @@ use Rattle.job.proofs.Next.{units_few}
 use Rattle.job.proofs.units.after_row.Statement.{statement}
 use Rattle.job.proofs.units.after_row.Tie as tie
 
-numbers-of-requires : tie.Need-numbers-of-requires
-numbers-of-requires c κs = search rules
-
-row-digits-requires : tie.Need-row-digits-requires
-row-digits-requires c κs = search rules
-
 -- past the first test it is a row's number
-fits : (c : tie.Else1) → let j = c.before.before.before.args in ltb j.row (2 ^ kind_digits j.job.kind j.job.width) ≡ true
-fits c = lt-ltb _ _ (shift_none _ _ (rw c.before.row-digits.ensures at c.if1.false))
+fits : (c : tie.Else-row-row_digits-ne0) → let j = c.args in ltb j.row (2 ^ kind_digits j.job.kind j.job.width) ≡ true
+fits c = lt-ltb _ _ (shift_none _ _ (rw c.row_digits.ensures at c.if-row-row_digits-ne0.false))
 
-shr-if1 : tie.Need-overflow-shr-if1
-shr-if1 c = rw c.row-digits.ensures (omega (arith, c.before.before.requires.0.narrow))
+numbers_of-t-requires : tie.Need-numbers_of-t-requires
+numbers_of-t-requires c κs = search rules
 
-returns : tie.Need-returns
-returns c = simp (le-ltb _ _ (shift_some _ _ (rw c.before.row-digits.ensures at c.if1.true)))
+row_digits-requires : tie.Need-row_digits-requires
+row_digits-requires c κs = search rules
 
-returns-2 : tie.Need-returns-2
-returns-2 c = simp (fits c.before, lt-leb _ _ c.if2.true)
+overflow_shr-row : tie.Need-overflow_shr-row
+overflow_shr-row c = rw c.row_digits.ensures (omega (arith, c.requires.0.narrow))
 
-mul-if3 : tie.Need-overflow-mul-if3
-mul-if3 c = let p = c.before.before.before.before.requires in omega (arith, mul-le-mul (width_le _ _ p.0) p.1)
+returns-then-row-row_digits-ne0 : tie.Need-returns-then-row-row_digits-ne0
+returns-then-row-row_digits-ne0 c = simp (le-ltb _ _ (shift_some _ _ (rw c.row_digits.ensures at c.if-row-row_digits-ne0.true)))
 
-returns-3 : tie.Need-returns-3
-returns-3 c =
-    let d = c.before.before in
+returns-then-w-worth : tie.Need-returns-then-w-worth
+returns-then-w-worth c = simp (fits c.before, lt-leb _ _ c.if-w-worth.true)
+
+overflow_mul-w : tie.Need-overflow_mul-w
+overflow_mul-w c = let p = c.requires in omega (arith, mul-le-mul (width_le _ _ p.0) p.1)
+
+returns-then-w-h : tie.Need-returns-then-w-h
+returns-then-w-h c =
     simp (
-      fits d.before,
-      le-leb _ _ d.if2.false,
-      lt-leb _ _ (rw d.before.before.before.numbers_of.ensures at c.if3.true),
+      fits c.before.before.before,
+      le-leb _ _ c.if-w-worth.false,
+      lt-leb _ _ (rw c.numbers_of-t.ensures at c.if-w-h.true),
     )
 
-add-t10 : tie.Need-overflow-add-t10
-add-t10 c =
-    let d = c.before.before.before.before.before.before in
-    let p = d.before.requires in
-    rw d.numbers_of.ensures (omega (arith, units_few d.before.args.job.kind p.0 p.1 p.2))
+overflow_add-t : tie.Need-overflow_add-t
+overflow_add-t c =
+    let p = c.requires in
+    rw c.numbers_of-t.ensures (omega (arith, units_few c.args.job.kind p.0 p.1 p.2))
 
-add-t9 : tie.Need-overflow-add-t9
-add-t9 c =
-    let e = c.before.before in
-    let d = e.before.before in
-    let p = d.before.before.before.before.requires in
-    omega (arith, width_le _ _ p.0, mul-le-mul (width_le _ _ p.0) p.1, e.if3.false, d.if2.false)
+overflow_add-worth : tie.Need-overflow_add-worth
+overflow_add-worth c =
+    let p = c.requires in
+    omega (arith, width_le _ _ p.0, mul-le-mul (width_le _ _ p.0) p.1, c.if-w-h.false, c.if-w-worth.false)
 
-mark-after-requires : tie.Need-mark-after-requires
-mark-after-requires c κs =
-    let s = c.before.before.before.before.before.before.before.before in
-    let p = s.requires in
-    omega (arith, p.3, units_few s.args.job.kind p.0 p.1 p.2)
+mark_after-requires : tie.Need-mark_after-requires
+mark_after-requires c κs =
+    let p = c.requires in
+    omega (arith, p.3, units_few c.args.job.kind p.0 p.1 p.2)
 
-job-of-requires : tie.Need-job-of-requires
-job-of-requires c κs = search rules
+job_of-requires : tie.Need-job_of-requires
+job_of-requires c κs = search rules
 
-returns-4 : tie.Need-returns-4
-returns-4 c =
-    let e = c.before.before.before.before in
-    let d = e.before.before in
-    let n = d.before.before.before.numbers_of.ensures in
+returns : tie.Need-returns
+returns c =
+    let n = c.numbers_of-t.ensures in
     rw (
       c.Job-of.ensures,
       n,
-      c.before.mark-after.ensures,
+      c.mark_after.ensures,
       add-one,
-      fits d.before,
-      le-leb _ _ d.if2.false,
-      le-leb _ _ (rw n at e.if3.false),
+      fits c.before.before.before.before.before.before.before,
+      le-leb _ _ c.if-w-worth.false,
+      le-leb _ _ (rw n at c.if-w-h.false),
     )
 
-pub after-row-spec : {M : Type 1} → statement M
-after-row-spec =
-    tie.close
-    (tie.spec
-    numbers-of-requires
-    row-digits-requires
-    shr-if1
-    returns
-    returns-2
-    mul-if3
-    returns-3
-    add-t10
-    add-t9
-    mark-after-requires
-    job-of-requires
-    returns-4)
+pub after_row_spec : {M : Type 1} → statement M
+after_row_spec = tie.close (tie.spec numbers_of-t-requires row_digits-requires overflow_shr-row returns-then-row-row_digits-ne0 returns-then-w-worth overflow_mul-w returns-then-w-h overflow_add-t overflow_add-worth mark_after-requires job_of-requires returns)

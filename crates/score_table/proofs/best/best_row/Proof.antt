@@ -28,12 +28,12 @@ use Rattle.score_table.specs.declared.best.Best.{Best}
 use Rattle.score_table.proofs.best.best_row.Statement.{statement}
 use Rattle.score_table.proofs.best.best_row.Tie as tie
 
-abbrev invariant-loop : tie.invariant-loop
-invariant-loop next want w a b t givens at table first bits n columns c₀ held x row j₀ c j =
+abbrev invariant-loop-j : tie.invariant-loop-j
+invariant-loop-j next want w a b t givens at table first bits n columns c₀ held x row j₀ c j =
     (j ≤ w + 2) × (all_below (becomes (entry_of next) w (row_for want w a) (row_for want w b) (row_for want w x) t) j ≡ true)
 
-abbrev decreases-loop : tie.decreases-loop
-decreases-loop next want w a b t givens at table first bits n columns c₀ held x row j₀ c j = w + 2 - j
+abbrev decreases-loop-j : tie.decreases-loop-j
+decreases-loop-j next want w a b t givens at table first bits n columns c₀ held x row j₀ c j = w + 2 - j
 
 abbrev invariant-rows : tie.invariant-rows
 invariant-rows next want w a b t givens at table first bits n columns c₀ held₀ c held =
@@ -44,15 +44,15 @@ decreases-rows next want w a b t givens at table first bits n columns c₀ held�
 
 -- a turn of the loop over rows, once the row that it tries is formed; what is held as it starts, and what the function is lent
 abbrev Turn : Type 0
-Turn = tie.After-row-for3 invariant-loop decreases-loop invariant-rows decreases-rows
+Turn = tie.After-row_for-row invariant-loop-j decreases-loop-j invariant-rows decreases-rows
 
-abbrev rows_at : Turn → tie.At-rows invariant-loop decreases-loop invariant-rows decreases-rows
+abbrev rows_at : Turn → tie.At-rows invariant-loop-j decreases-loop-j invariant-rows decreases-rows
 rows_at t = t.before.before
 
-abbrev codes_at : Turn → tie.After-row-codes invariant-loop decreases-loop invariant-rows decreases-rows
+abbrev codes_at : Turn → tie.After-row_codes-n invariant-loop-j decreases-loop-j invariant-rows decreases-rows
 codes_at t = (rows_at t).before.before.before.before
 
-abbrev start : Turn → tie.Start invariant-loop decreases-loop invariant-rows decreases-rows
+abbrev start : Turn → tie.Start invariant-loop-j decreases-loop-j invariant-rows decreases-rows
 start t = (codes_at t).before.before.before.before
 
 abbrev tried : Turn → ℕ
@@ -95,7 +95,7 @@ pass t e = done t _ (held_pass _ _ _ _ _ _ _ _ _ (rows_at t).rows.inv.3 e)
 
 -- the number that is tried is one of a row, and its row has w cells
 is_number : (t : Turn) → tried t < 2 ^ digits_of (want_of_lem t) (start t).args.w
-is_number t = omega (arith, (rows_at t).rows.inv.0, t.before.if1.left)
+is_number t = omega (arith, (rows_at t).rows.inv.0, t.if-n-c.left)
 
 is_row : (t : Turn) (x : ℕ) → x < 2 ^ digits_of (want_of_lem t) (start t).args.w → row_for (want_of_lem t) (start t).args.w x < 2 ^ (start t).args.w
 is_row t x l = row_lt (want_of_lem t).halves (start t).args.w x l
@@ -108,244 +108,186 @@ room : (t : Turn) → let g = (start t).args in g.first + tried t < length g.tab
 room t = omega (arith, is_number t, (start t).pre.5)
 
 -- the column that is tried, and its test
-column : (c : tie.In-loop invariant-loop decreases-loop invariant-rows decreases-rows) →
-    let t = c.before.before in
-    let g = (start t).args in
-    get_or (rows_at t).before.columns.result c.before.loop.j 0 ≡ column_of g.w (row_for g.want g.w g.a) (row_for g.want g.w g.b) g.t c.before.loop.j
+column : (c : tie.In-loop-j invariant-loop-j decreases-loop-j invariant-rows decreases-rows) →
+    let g = (start c.before.before).args in
+    get_or (rows_at c.before.before).before.columns.result c.loop-j.j 0 ≡ column_of g.w (row_for g.want g.w g.a) (row_for g.want g.w g.b) g.t c.loop-j.j
 column c =
-    let t = c.before.before in
-    let k = (rows_at t).before in
-    k.columns.ensures.at c.before.loop.j (omega (arith, c.loop-test.true))
-    ∙ ap₂ (λ (x y : ℕ). column_of (start t).args.w x y (start t).args.t c.before.loop.j) k.before.before.row-for.ensures.0 k.before.row-for2.ensures.0
+    let k = (rows_at c.before.before).before in
+    k.columns.ensures.at c.loop-j.j (omega (arith, c.loop-j-test.true))
+    ∙ ap₂ (λ (x y : ℕ). column_of (start c.before.before).args.w x y (start c.before.before).args.t c.loop-j.j) k.row-for.ensures.0 k.row-for2.ensures.0
 
-passed : (c : tie.After-passes invariant-loop decreases-loop invariant-rows decreases-rows) → c.passes.result ≡ Turns c.before.before.before (tried c.before.before.before) c.before.before.loop.j
+passed : (c : tie.After-passes invariant-loop-j decreases-loop-j invariant-rows decreases-rows) → c.passes.result ≡ Turns c.before.before.before (tried c.before.before.before) c.loop-j.j
 passed c =
-    let t = c.before.before.before in
-    let p = (start t).requires in
-    let g = (start t).args in
-    let j = c.before.before.loop.j in
+    let p = (start c.before.before.before).requires in
+    let g = (start c.before.before.before).args in
+    let j = c.loop-j.j in
     c.passes.ensures
-    ∙ ap₂ (λ (x y : ℕ). passes (entry_of g.next.now) g.w x y j) (column c.before) t.row-for3.ensures.0
-    ∙ (passes_is (entry_of g.next.now) g.w _ _ _ g.t j (is_row t g.a p.1) (is_row t g.b p.2) (is_row t (tried t) (is_number t)) p.3 (omega arith))
+    ∙ ap₂ (λ (x y : ℕ). passes (entry_of g.next.now) g.w x y j) (column c.before) c.row_for-row.ensures.0
+    ∙ (passes_is (entry_of g.next.now) g.w _ _ _ g.t j (is_row c.before.before.before g.a p.1) (is_row c.before.before.before g.b p.2) (is_row c.before.before.before (tried c.before.before.before) (is_number c.before.before.before)) p.3 (omega arith))
 
 -- every column was tried
-agreed : (c : tie.After-loop invariant-loop decreases-loop invariant-rows decreases-rows) →
-    let t = c.before.before in
-    let g = (start t).args in
-    steps_to (entry_of g.next.now) g.w (row_for g.want g.w g.a) (row_for g.want g.w g.b) (row_for g.want g.w (tried t)) g.t ≡ true
+agreed : (c : tie.After-loop-j invariant-loop-j decreases-loop-j invariant-rows decreases-rows) →
+    let g = (start c.before.before).args in
+    steps_to (entry_of g.next.now) g.w (row_for g.want g.w g.a) (row_for g.want g.w g.b) (row_for g.want g.w (tried c.before.before)) g.t ≡ true
 unfolding steps_to
 agreed c =
-    let e : c.before.loop.j ≡ (start c.before.before).args.w + 2 = omega arith in
-    rw e at c.before.loop.invariant.1
+    let e : c.loop-j.j ≡ (start c.before.before).args.w + 2 = omega arith in
+    rw e at c.loop-j.invariant.1
 
 -- whether the row keeps its givens
-kept : (c : tie.After-row-kept invariant-loop decreases-loop invariant-rows decreases-rows) →
-    let t = c.before.before.before in
-    let g = (start t).args in
-    c.row_kept.result ≡ row_kept g.w (marks_of g.want.predecessor g.givens.now) g.at (row_for g.want g.w (tried t))
+kept : (c : tie.After-row_kept invariant-loop-j decreases-loop-j invariant-rows decreases-rows) →
+    let g = (start c.before.before.before).args in
+    c.row_kept.result ≡ row_kept g.w (marks_of g.want.predecessor g.givens.now) g.at (row_for g.want g.w (tried c.before.before.before))
 kept c =
-    let t = c.before.before.before in
-    let g = (start t).args in
-    c.row_kept.ensures ∙ ap (row_kept g.w (marks_of g.want.predecessor g.givens.now) g.at) t.row-for3.ensures.0
+    let g = (start c.before.before.before).args in
+    c.row_kept.ensures ∙ ap (row_kept g.w (marks_of g.want.predecessor g.givens.now) g.at) c.row_for-row.ensures.0
 
 -- the sum of the turn is what the row offers
-sum : (c : tie.After-row-worth invariant-loop decreases-loop invariant-rows decreases-rows) →
-    let t = c.before.before.before.before.before.before.before.before in
-    let g = (start t).args in
-    Offer t (tried t) ≡ some (c.row-worth.result + get_or g.table.now (g.first + tried t) 0)
+sum : (c : tie.After-row_worth invariant-loop-j decreases-loop-j invariant-rows decreases-rows) →
+    let g = (start c.before.before.before.before.before.before.before.before).args in
+    Offer c.before.before.before.before.before.before.before.before (tried c.before.before.before.before.before.before.before.before) ≡ some (c.row_worth.result + get_or g.table.now (g.first + tried c.before.before.before.before.before.before.before.before) 0)
 sum c =
-    let t = c.before.before.before.before.before.before.before.before in
-    let g = (start t).args in
-    let k = c.before.before.before.before.before in
-    offer_sum (want_of_lem t) _ _ _ _ _ _ _ _ _ (agreed k.before) (sym (kept k) ∙ not-false _ c.before.before.before.before.if3.false) c.before.if4.false
-    ∙ ap (λ (x : ℕ). some (x + get_or g.table.now (g.first + tried t) 0))
-    (sym (c.row-worth.ensures.0 ∙ ap (row_worth g.w (marks_of g.want.predecessor g.givens.now) g.at) t.row-for3.ensures.0))
-
-row-digits-requires : tie.Need-row-digits-requires invariant-loop decreases-loop invariant-rows decreases-rows
-row-digits-requires c κs = search rules
-
-row-codes-requires : tie.Need-row-codes-requires invariant-loop decreases-loop invariant-rows decreases-rows
-row-codes-requires c κs = rw c.row-digits.ensures c.before.before.before.requires.0.narrow
-
-row-for-requires : tie.Need-row-for-requires invariant-loop decreases-loop invariant-rows decreases-rows
-row-for-requires c κs = let p = c.before.before.before.before.requires in (p.0, p.1)
-
-row-for-requires-2 : tie.Need-row-for-requires-2 invariant-loop decreases-loop invariant-rows decreases-rows
-row-for-requires-2 c κs = let p = c.before.before.before.before.before.requires in (p.0, p.2)
-
-columns-requires : tie.Need-columns-requires invariant-loop decreases-loop invariant-rows decreases-rows
-columns-requires c κs =
-    let p = c.before.before.before.before.before.before.requires in
-    (width_le _ _ p.0, c.before.row-for.ensures.1, c.row-for2.ensures.1, p.3)
-
-rows-holds : tie.Need-rows-init invariant-loop decreases-loop invariant-rows decreases-rows
-rows-holds c =
-    let k = c.before.before.before in
-    (rw k.before.row-digits.ensures at k.row-codes.ensures.0, k.row-codes.ensures.1, search rules, held_none _ _ _ _ _ _ _ _ _)
-
-row-for-requires-3 : tie.Need-row-for-requires-3 invariant-loop decreases-loop invariant-rows decreases-rows
-row-for-requires-3 c κs =
-    let r = c.before in
-    (r.before.before.before.before.before.before.before.before.requires.0, omega (arith, r.rows.invariant.0, c.if1.false))
-
-loop-holds : tie.Need-loop-init invariant-loop decreases-loop invariant-rows decreases-rows
-loop-holds c = (search rules, all_none _)
-
-add-loop : tie.Need-overflow-add-loop invariant-loop decreases-loop invariant-rows decreases-rows
-add-loop c = omega (arith, wide c.before)
-
-mul-passes : tie.Need-overflow-mul-passes invariant-loop decreases-loop invariant-rows decreases-rows
-mul-passes c = omega (arith, wide c.before.before, c.loop-test.true)
-
-array-read-passes : tie.Need-array-read-passes invariant-loop decreases-loop invariant-rows decreases-rows
-array-read-passes c = omega (arith, wide c.before.before, c.loop-test.true)
-
-passes-requires : tie.Need-passes-requires invariant-loop decreases-loop invariant-rows decreases-rows
-passes-requires c κs =
-    let t = c.before.before in
-    (wide t, rw (column c) (column_lt (start t).args.w _ _ (start t).args.t c.before.loop.j), t.row-for3.ensures.1, omega arith)
+    let g = (start c.before.before.before.before.before.before.before.before).args in
+    offer_sum (want_of_lem c.before.before.before.before.before.before.before.before) _ _ _ _ _ _ _ _ _ (agreed c.before.before.before.before.before.before) (sym (kept c.before.before.before.before.before) ∙ c.if-not-row_kept.false) c.if-want-e.false
+    ∙ ap (λ (x : ℕ). some (x + get_or g.table.now (g.first + tried c.before.before.before.before.before.before.before.before) 0))
+    (sym (c.row_worth.ensures.0 ∙ ap (row_worth g.w (marks_of g.want.predecessor g.givens.now) g.at) c.row_for-row.ensures.0))
 
 -- the digits of a row's number
 digits : (t : Turn) → (codes_at t).before.row-digits.result ≡ digits_of (want_of_lem t) (start t).args.w
 digits t = (codes_at t).before.row-digits.ensures
 
-next-row-requires : tie.Need-next-row-requires invariant-loop decreases-loop invariant-rows decreases-rows
-next-row-requires c κs =
-    let t = c.before.before.before.before in
-    (rw (digits t) (start t).requires.0.narrow, rw (digits t) (is_number t), omega (arith, wide t, c.before.before.loop-test.true))
+row_digits-bits-requires : tie.Need-row_digits-bits-requires invariant-loop-j decreases-loop-j invariant-rows decreases-rows
+row_digits-bits-requires c κs = search rules
 
-rows-less : tie.Need-rows-smaller invariant-loop decreases-loop invariant-rows decreases-rows
-rows-less c = search rules
+row_codes-n-requires : tie.Need-row_codes-n-requires invariant-loop-j decreases-loop-j invariant-rows decreases-rows
+row_codes-n-requires c κs = rw c.row_digits-bits.ensures c.requires.0.narrow
 
-rows-again : tie.Need-rows-preserved invariant-loop decreases-loop invariant-rows decreases-rows
-rows-again c =
-    let t = c.before.before.before.before.before in
-    let g = (start t).args in
-    let p = (start t).requires in
+row_for-requires : tie.Need-row_for-requires invariant-loop-j decreases-loop-j invariant-rows decreases-rows
+row_for-requires c κs = let p = c.requires in (p.0, p.1)
+
+row_for-requires-2 : tie.Need-row_for-requires-2 invariant-loop-j decreases-loop-j invariant-rows decreases-rows
+row_for-requires-2 c κs = let p = c.requires in (p.0, p.2)
+
+columns-columns-requires : tie.Need-columns-columns-requires invariant-loop-j decreases-loop-j invariant-rows decreases-rows
+columns-columns-requires c κs =
+    let p = c.requires in
+    (width_le _ _ p.0, c.row_for.ensures.1, c.row_for-2.ensures.1, p.3)
+
+rows-init : tie.Need-rows-init invariant-loop-j decreases-loop-j invariant-rows decreases-rows
+rows-init c =
+    (rw c.row_digits-bits.ensures at c.row_codes-n.ensures.0, c.row_codes-n.ensures.1, search rules, held_none _ _ _ _ _ _ _ _ _)
+
+row_for-row-requires : tie.Need-row_for-row-requires invariant-loop-j decreases-loop-j invariant-rows decreases-rows
+row_for-row-requires c κs =
+    (c.requires.0, omega (arith, c.rows.invariant.0, c.if-n-c.false))
+
+loop-j-init : tie.Need-loop-j-init invariant-loop-j decreases-loop-j invariant-rows decreases-rows
+loop-j-init c = (search rules, all_none _)
+
+overflow_add-w : tie.Need-overflow_add-w invariant-loop-j decreases-loop-j invariant-rows decreases-rows
+overflow_add-w c = omega (arith, wide c.before)
+
+offset_bounds-columns-j : tie.Need-offset_bounds-columns-j invariant-loop-j decreases-loop-j invariant-rows decreases-rows
+offset_bounds-columns-j c = omega (arith, wide c.before.before, c.loop-j-test.true)
+
+bounds-columns-j : tie.Need-bounds-columns-j invariant-loop-j decreases-loop-j invariant-rows decreases-rows
+bounds-columns-j c = omega (arith, wide c.before.before, c.loop-j-test.true)
+
+passes-requires : tie.Need-passes-requires invariant-loop-j decreases-loop-j invariant-rows decreases-rows
+passes-requires c κs =
+    (wide c.before.before, rw (column c) (column_lt (start c.before.before).args.w _ _ (start c.before.before).args.t c.loop-j.j), c.row_for-row.ensures.1, omega arith)
+
+next_row-c-requires : tie.Need-next_row-c-requires invariant-loop-j decreases-loop-j invariant-rows decreases-rows
+next_row-c-requires c κs =
+    (rw (digits c.before.before.before.before) (start c.before.before.before.before).requires.0.narrow, rw (digits c.before.before.before.before) (is_number c.before.before.before.before), omega (arith, wide c.before.before.before.before, c.loop-j-test.true))
+
+rows-smaller-then-not-passes : tie.Need-rows-smaller-then-not-passes invariant-loop-j decreases-loop-j invariant-rows decreases-rows
+rows-smaller-then-not-passes c = search rules
+
+rows-preserved-then-not-passes : tie.Need-rows-preserved-then-not-passes invariant-loop-j decreases-loop-j invariant-rows decreases-rows
+rows-preserved-then-not-passes c =
+    let g = (start c.before.before.before.before.before).args in
+    let p = (start c.before.before.before.before.before).requires in
     let bits = digits_of g.want g.w in
-    let j = c.before.before.before.before.loop.j in
+    let j = c.loop-j.j in
     let within : j < g.w + 2 = omega arith in
-    let m = c.next_row.result in
-    let skip : m ≡ skip_to bits (tried t) j = rw (digits t) at c.next_row.ensures.0 in
-    let most : m ≤ 2 ^ bits = rw (digits t) at c.next_row.ensures.2 in
-    let past : tried t < m = c.next_row.ensures.1 in
-    let e : tried t + (m - tried t) ≡ m = omega arith in
-    let bad : Turns t (tried t) j ≡ false = sym (passed c.before.before) ∙ not-true _ c.before.if2.true in
-    let fail : (y : ℕ) → tried t ≤ y → y < tried t + (m - tried t) → Offer t y ≡ none =
+    let m = c.next_row-c.result in
+    let skip : m ≡ skip_to bits (tried c.before.before.before.before.before) j = rw (digits c.before.before.before.before.before) at c.next_row-c.ensures.0 in
+    let most : m ≤ 2 ^ bits = rw (digits c.before.before.before.before.before) at c.next_row-c.ensures.2 in
+    let past : tried c.before.before.before.before.before < m = c.next_row-c.ensures.1 in
+    let e : tried c.before.before.before.before.before + (m - tried c.before.before.before.before.before) ≡ m = omega arith in
+    let bad : Turns c.before.before.before.before.before (tried c.before.before.before.before.before) j ≡ false = sym (passed c.before.before) ∙ c.if-not-passes.true in
+    let fail : (y : ℕ) → tried c.before.before.before.before.before ≤ y → y < tried c.before.before.before.before.before + (m - tried c.before.before.before.before.before) → Offer c.before.before.before.before.before y ≡ none =
     λ y l u.
-    let u' : y < skip_to bits (tried t) j = rw (e, skip) at u in
+    let u' : y < skip_to bits (tried c.before.before.before.before.before) j = rw (e, skip) at u in
     let ly : y < 2 ^ bits = omega arith in
-    offer_apart (want_of_lem t) _ _ _ _ _ _ _ _ y j within
-    (becomes_same (entry_of g.next.now) g.w _ _ _ _ g.t j (is_row t g.a p.1) (is_row t g.b p.2) (is_row t y ly) (is_row t (tried t) (is_number t)) p.3 (omega arith)
-    (rows_same g.want.halves g.w y (tried t) j ly (is_number t) (skipped_same bits (tried t) j y l u'))
+    offer_apart (want_of_lem c.before.before.before.before.before) _ _ _ _ _ _ _ _ y j within
+    (becomes_same (entry_of g.next.now) g.w _ _ _ _ g.t j (is_row c.before.before.before.before.before g.a p.1) (is_row c.before.before.before.before.before g.b p.2) (is_row c.before.before.before.before.before y ly) (is_row c.before.before.before.before.before (tried c.before.before.before.before.before) (is_number c.before.before.before.before.before)) p.3 (omega arith)
+    (rows_same g.want.halves g.w y (tried c.before.before.before.before.before) j ly (is_number c.before.before.before.before.before) (skipped_same bits (tried c.before.before.before.before.before) j y l u'))
     ∙ bad) in
-    let r : HeldAt t (tried t + (m - tried t)) (rows_at t).rows.held = held_skip _ _ _ _ _ _ _ _ _ (m - tried t) (rows_at t).rows.invariant.3 fail in
-    ((rows_at t).rows.invariant.0, (rows_at t).rows.invariant.1, omega (arith, most, (rows_at t).rows.invariant.0), rw e at r)
+    let r : HeldAt c.before.before.before.before.before (tried c.before.before.before.before.before + (m - tried c.before.before.before.before.before)) (rows_at c.before.before.before.before.before).rows.held = held_skip _ _ _ _ _ _ _ _ _ (m - tried c.before.before.before.before.before) (rows_at c.before.before.before.before.before).rows.invariant.3 fail in
+    ((rows_at c.before.before.before.before.before).rows.invariant.0, (rows_at c.before.before.before.before.before).rows.invariant.1, omega (arith, most, (rows_at c.before.before.before.before.before).rows.invariant.0), rw e at r)
 
-add-j : tie.Need-overflow-add-j invariant-loop decreases-loop invariant-rows decreases-rows
-add-j c = search rules
+overflow_add-j : tie.Need-overflow_add-j invariant-loop-j decreases-loop-j invariant-rows decreases-rows
+overflow_add-j c = search rules
 
-loop-less : tie.Need-loop-smaller invariant-loop decreases-loop invariant-rows decreases-rows
-loop-less c = search rules
+loop-j-smaller : tie.Need-loop-j-smaller invariant-loop-j decreases-loop-j invariant-rows decreases-rows
+loop-j-smaller c = search rules
 
-loop-again : tie.Need-loop-preserved invariant-loop decreases-loop invariant-rows decreases-rows
-loop-again c = (search rules, all_more _ _ c.before.before.before.loop.invariant.1 (sym (passed c.before) ∙ not-false _ c.if2.false))
+loop-j-preserved : tie.Need-loop-j-preserved invariant-loop-j decreases-loop-j invariant-rows decreases-rows
+loop-j-preserved c = (search rules, all_more _ _ c.loop-j.invariant.1 (sym (passed c.before) ∙ c.if-not-passes.false))
 
-add-c : tie.Need-overflow-add-c invariant-loop decreases-loop invariant-rows decreases-rows
-add-c c = search rules
+overflow_add-c : tie.Need-overflow_add-c invariant-loop-j decreases-loop-j invariant-rows decreases-rows
+overflow_add-c c = search rules
 
-row-kept-requires : tie.Need-row-kept-requires invariant-loop decreases-loop invariant-rows decreases-rows
-row-kept-requires c κs = let t = c.before.before in (wide t, (start t).requires.4)
+row_kept-requires : tie.Need-row_kept-requires invariant-loop-j decreases-loop-j invariant-rows decreases-rows
+row_kept-requires c κs = (wide c.before.before, (start c.before.before).requires.4)
 
-rows-less-2 : tie.Need-rows-smaller-2 invariant-loop decreases-loop invariant-rows decreases-rows
-rows-less-2 c = search rules
+rows-smaller-then-not-row_kept : tie.Need-rows-smaller-then-not-row_kept invariant-loop-j decreases-loop-j invariant-rows decreases-rows
+rows-smaller-then-not-row_kept c = search rules
 
-rows-again-2 : tie.Need-rows-preserved-2 invariant-loop decreases-loop invariant-rows decreases-rows
-rows-again-2 c =
-    pass c.before.before.before.before (offer_barred (want_of_lem c.before.before.before.before) _ _ _ _ _ _ _ _ _ (sym (kept c.before) ∙ not-true _ c.if3.true))
+rows-preserved-then-not-row_kept : tie.Need-rows-preserved-then-not-row_kept invariant-loop-j decreases-loop-j invariant-rows decreases-rows
+rows-preserved-then-not-row_kept c =
+    pass c.before.before.before.before (offer_barred (want_of_lem c.before.before.before.before) _ _ _ _ _ _ _ _ _ (sym (kept c.before) ∙ c.if-not-row_kept.true))
 
-add-e : tie.Need-overflow-add-e invariant-loop decreases-loop invariant-rows decreases-rows
-add-e c = let t = c.before.before.before.before in omega (arith, room t, (start t).well-formed)
+overflow_add-e : tie.Need-overflow_add-e invariant-loop-j decreases-loop-j invariant-rows decreases-rows
+overflow_add-e c = omega (arith, room c.before.before.before.before, (start c.before.before.before.before).well-formed)
 
-mul-e : tie.Need-overflow-mul-e invariant-loop decreases-loop invariant-rows decreases-rows
-mul-e c = let t = c.before.before.before.before in omega (arith, room t, (start t).well-formed)
+offset_bounds-table-first : tie.Need-offset_bounds-table-first invariant-loop-j decreases-loop-j invariant-rows decreases-rows
+offset_bounds-table-first c = omega (arith, room c.before.before.before.before, (start c.before.before.before.before).well-formed)
 
-shared-slice-read-e : tie.Need-shared-slice-read-e invariant-loop decreases-loop invariant-rows decreases-rows
-shared-slice-read-e c = room c.before.before.before.before.before
+bounds-table-first : tie.Need-bounds-table-first invariant-loop-j decreases-loop-j invariant-rows decreases-rows
+bounds-table-first c = room c.before.before.before.before.before
 
-cast-e : tie.Need-overflow-cast-e invariant-loop decreases-loop invariant-rows decreases-rows
-cast-e c =
-    let t = c.before.before.before.before.before in
-    omega (arith, c.shared-slice-known3.given ((start t).args.first + tried t))
+overflow_cast-e : tie.Need-overflow_cast-e invariant-loop-j decreases-loop-j invariant-rows decreases-rows
+overflow_cast-e c =
+    omega (arith, c.shared_slice_known-in-rows-1.given ((start c.before.before.before.before.before).args.first + tried c.before.before.before.before.before))
 
-rows-less-3 : tie.Need-rows-smaller-3 invariant-loop decreases-loop invariant-rows decreases-rows
-rows-less-3 c = search rules
+rows-smaller-then-want-e : tie.Need-rows-smaller-then-want-e invariant-loop-j decreases-loop-j invariant-rows decreases-rows
+rows-smaller-then-want-e c = search rules
 
-rows-again-3 : tie.Need-rows-preserved-3 invariant-loop decreases-loop invariant-rows decreases-rows
-rows-again-3 c = pass c.before.before.before.before.before.before.before (offer_absent (want_of_lem c.before.before.before.before.before.before.before) _ _ _ _ _ _ _ _ _ c.if4.true)
+rows-preserved-then-want-e : tie.Need-rows-preserved-then-want-e invariant-loop-j decreases-loop-j invariant-rows decreases-rows
+rows-preserved-then-want-e c = pass c.before.before.before.before.before.before.before (offer_absent (want_of_lem c.before.before.before.before.before.before.before) _ _ _ _ _ _ _ _ _ c.if-want-e.true)
 
-row-worth-requires : tie.Need-row-worth-requires invariant-loop decreases-loop invariant-rows decreases-rows
-row-worth-requires c κs = let t = c.before.before.before.before.before.before.before in (wide t, (start t).requires.4)
+row_worth-requires : tie.Need-row_worth-requires invariant-loop-j decreases-loop-j invariant-rows decreases-rows
+row_worth-requires c κs = (wide c.before.before.before.before.before.before.before, (start c.before.before.before.before.before.before.before).requires.4)
 
-add-sum : tie.Need-overflow-add-sum invariant-loop decreases-loop invariant-rows decreases-rows
-add-sum c =
-    let d = c.before.before.before in
-    let t = d.before.before.before.before.before in
-    omega (arith, d.shared-slice-known3.given ((start t).args.first + tried t), wide t, c.row-worth.ensures.1)
+overflow_add-sum : tie.Need-overflow_add-sum invariant-loop-j decreases-loop-j invariant-rows decreases-rows
+overflow_add-sum c =
+    omega (arith, c.shared_slice_known-in-rows-1.given ((start c.before.before.before.before.before.before.before.before).args.first + tried c.before.before.before.before.before.before.before.before), wide c.before.before.before.before.before.before.before.before, c.row_worth.ensures.1)
 
-consider-requires : tie.Need-consider-requires invariant-loop decreases-loop invariant-rows decreases-rows
-consider-requires c κs = search rules
+consider-held-requires : tie.Need-consider-held-requires invariant-loop-j decreases-loop-j invariant-rows decreases-rows
+consider-held-requires c κs = search rules
 
-rows-less-4 : tie.Need-rows-smaller-4 invariant-loop decreases-loop invariant-rows decreases-rows
-rows-less-4 c = search rules
+rows-smaller : tie.Need-rows-smaller invariant-loop-j decreases-loop-j invariant-rows decreases-rows
+rows-smaller c = search rules
 
-rows-again-4 : tie.Need-rows-preserved-4 invariant-loop decreases-loop invariant-rows decreases-rows
-rows-again-4 c =
-    let t = c.before.before.before.before.before.before.before.before.before in
-    done t _ (held_next _ _ _ _ _ _ _ _ _ (rows_at t).rows.invariant.3 _ (sum c.before) c.consider.ensures)
+rows-preserved : tie.Need-rows-preserved invariant-loop-j decreases-loop-j invariant-rows decreases-rows
+rows-preserved c =
+    done c.before.before.before.before.before.before.before.before.before _ (held_next _ _ _ _ _ _ _ _ _ (rows_at c.before.before.before.before.before.before.before.before.before).rows.invariant.3 _ (sum c.before) c.consider-held.ensures)
 
-returns : tie.Need-returns invariant-loop decreases-loop invariant-rows decreases-rows
-returns c = found _ _ _ _ _ _ _ _ _ c.before.rows.invariant.3 (omega (arith, c.before.rows.invariant.0))
+returns : tie.Need-returns invariant-loop-j decreases-loop-j invariant-rows decreases-rows
+returns c = found _ _ _ _ _ _ _ _ _ c.rows.invariant.3 (omega (arith, c.rows.invariant.0))
 
-pub best-row-spec : {M : Type 1} → statement M
-best-row-spec =
-    tie.close
-    (tie.spec
-    invariant-loop
-    decreases-loop
-    invariant-rows
-    decreases-rows
-    row-digits-requires
-    row-codes-requires
-    row-for-requires
-    row-for-requires-2
-    columns-requires
-    rows-holds
-    row-for-requires-3
-    loop-holds
-    add-loop
-    mul-passes
-    array-read-passes
-    passes-requires
-    next-row-requires
-    rows-less
-    rows-again
-    add-j
-    loop-less
-    loop-again
-    add-c
-    row-kept-requires
-    rows-less-2
-    rows-again-2
-    add-e
-    mul-e
-    shared-slice-read-e
-    cast-e
-    rows-less-3
-    rows-again-3
-    row-worth-requires
-    add-sum
-    consider-requires
-    rows-less-4
-    rows-again-4
-    returns)
+pub best_row_spec : {M : Type 1} → statement M
+best_row_spec = tie.close (tie.spec invariant-loop-j decreases-loop-j invariant-rows decreases-rows row_digits-bits-requires row_codes-n-requires row_for-requires row_for-requires-2 columns-columns-requires rows-init row_for-row-requires loop-j-init overflow_add-w offset_bounds-columns-j bounds-columns-j passes-requires next_row-c-requires rows-smaller-then-not-passes rows-preserved-then-not-passes overflow_add-j loop-j-smaller loop-j-preserved overflow_add-c row_kept-requires rows-smaller-then-not-row_kept rows-preserved-then-not-row_kept overflow_add-e offset_bounds-table-first bounds-table-first overflow_cast-e rows-smaller-then-want-e rows-preserved-then-want-e row_worth-requires overflow_add-sum consider-held-requires rows-smaller rows-preserved returns)

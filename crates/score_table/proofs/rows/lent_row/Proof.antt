@@ -15,90 +15,69 @@ use Rattle.score_table.proofs.Targets.{target_number_none, target_number_more, t
 use Rattle.score_table.proofs.rows.lent_row.Statement.{statement}
 use Rattle.score_table.proofs.rows.lent_row.Tie as tie
 
-abbrev invariant-loop : tie.invariant-loop
-invariant-loop w lent i at t₀ k₀ t k = (at ≡ (i - 1) * w) × (k ≤ w) × (t ≡ target_number lent at k)
+abbrev invariant-loop-k : tie.invariant-loop-k
+invariant-loop-k w lent i at t₀ k₀ t k = (at ≡ (i - 1) * w) × (k ≤ w) × (t ≡ target_number lent at k)
 
-abbrev decreases-loop : tie.decreases-loop
-decreases-loop w lent i at t₀ k₀ t k = w - k
+abbrev decreases-loop-k : tie.decreases-loop-k
+decreases-loop-k w lent i at t₀ k₀ t k = w - k
 
 -- the row is within the target, past the test
-room : (c : tie.Else1 invariant-loop decreases-loop) → let g = c.before.args in (g.i - 1) * g.w + g.w ≤ length g.lent.now
-room c = let s = c.before in omega (arith, row_room s.args.w s.args.i (s.args.i - 1) (omega (arith, c.if1.false)), s.requires.2)
+room : (c : tie.Else-i-eq0 invariant-loop-k decreases-loop-k) → let g = c.args in (g.i - 1) * g.w + g.w ≤ length g.lent.now
+room c = omega (arith, row_room c.args.w c.args.i (c.args.i - 1) (omega (arith, c.if-i-eq0.false)), c.requires.2)
 
-small : (c : tie.Else1 invariant-loop decreases-loop) → let g = c.before.args in (g.i - 1) * g.w ≤ max_height * max_mirror_width
+small : (c : tie.Else-i-eq0 invariant-loop-k decreases-loop-k) → let g = c.args in (g.i - 1) * g.w ≤ max_height * max_mirror_width
 small c =
-    let s = c.before in
-    let l : s.args.i - 1 ≤ max_height = omega (arith, s.requires.1) in
-    mul-le-mul l s.requires.0
+    let l : c.args.i - 1 ≤ max_height = omega (arith, c.requires.1) in
+    mul-le-mul l c.requires.0
 
 -- the number so far is small
-short : (c : tie.In-loop invariant-loop decreases-loop) → c.before.loop.t < 1048576
+short : (c : tie.In-loop-k invariant-loop-k decreases-loop-k) → c.loop-k.t < 1048576
 short c =
-    let l = c.before.loop in
-    let s = c.before.before.before in
-    let b : 2 ^ l.k ≤ 1048576 = pow_mono {j = 20} (omega (arith, l.invariant.1, s.requires.0)) in
-    rw l.invariant.2 (omega (arith, target_number_lt s.args.lent.now ((s.args.i - 1) * s.args.w) l.k))
+    let l = c.loop-k in
+    let b : 2 ^ l.k ≤ 1048576 = pow_mono {j = 20} (omega (arith, l.invariant.1, c.requires.0)) in
+    rw l.invariant.2 (omega (arith, target_number_lt c.args.lent.now ((c.args.i - 1) * c.args.w) l.k))
 
-returns : tie.Need-returns invariant-loop decreases-loop
-returns c = (rw (eq-eqb _ 0 c.if1.true), pow_pos _)
+returns-then-i-eq0 : tie.Need-returns-then-i-eq0 invariant-loop-k decreases-loop-k
+returns-then-i-eq0 c = (rw (eq-eqb _ 0 c.if-i-eq0.true), pow_pos _)
 
-sub_at : tie.Need-overflow-sub-at invariant-loop decreases-loop
-sub_at c = search rules
+overflow_sub-at : tie.Need-overflow_sub-at invariant-loop-k decreases-loop-k
+overflow_sub-at c = search rules
 
-mul_at : tie.Need-overflow-mul-at invariant-loop decreases-loop
-mul_at c = omega (arith, small c)
+overflow_mul-at : tie.Need-overflow_mul-at invariant-loop-k decreases-loop-k
+overflow_mul-at c = omega (arith, small c)
 
-loop-holds : tie.Need-loop-init invariant-loop decreases-loop
-loop-holds c = (refl, search rules, sym (target_number_none _ _))
+loop-k-init : tie.Need-loop-k-init invariant-loop-k decreases-loop-k
+loop-k-init c = (refl, search rules, sym (target_number_none _ _))
 
-mul-t : tie.Need-overflow-mul-t invariant-loop decreases-loop
-mul-t c = omega (arith, short c)
+overflow_mul-t : tie.Need-overflow_mul-t invariant-loop-k decreases-loop-k
+overflow_mul-t c = omega (arith, short c)
 
-add-t : tie.Need-overflow-add-t invariant-loop decreases-loop
-add-t c = let d = c.before.before in omega (arith, small d, c.loop-test.true, d.before.requires.0)
+overflow_add-t : tie.Need-overflow_add-t invariant-loop-k decreases-loop-k
+overflow_add-t c = omega (arith, small c.before.before, c.loop-k-test.true, c.requires.0)
 
-shared-slice-read-t : tie.Need-shared-slice-read-t invariant-loop decreases-loop
-shared-slice-read-t c = omega (arith, room c.before.before.before, c.before.loop-test.true)
+bounds-lent-at : tie.Need-bounds-lent-at invariant-loop-k decreases-loop-k
+bounds-lent-at c = omega (arith, room c.before.before.before, c.loop-k-test.true)
 
-cast_t : tie.Need-overflow-cast-t invariant-loop decreases-loop
-cast_t c = omega arith
+overflow_cast-t : tie.Need-overflow_cast-t invariant-loop-k decreases-loop-k
+overflow_cast-t c = omega arith
 
-add-t-2 : tie.Need-overflow-add-t-2 invariant-loop decreases-loop
-add-t-2 c = omega (arith, short c.before)
+overflow_add-t-in-loop-k : tie.Need-overflow_add-t-in-loop-k invariant-loop-k decreases-loop-k
+overflow_add-t-in-loop-k c = omega (arith, short c.before)
 
-add-k : tie.Need-overflow-add-k invariant-loop decreases-loop
-add-k c = search rules
+overflow_step-k : tie.Need-overflow_step-k invariant-loop-k decreases-loop-k
+overflow_step-k c = search rules
 
-loop-less : tie.Need-loop-smaller invariant-loop decreases-loop
-loop-less c = search rules
+loop-k-smaller : tie.Need-loop-k-smaller invariant-loop-k decreases-loop-k
+loop-k-smaller c = search rules
 
-loop-again : tie.Need-loop-preserved invariant-loop decreases-loop
-loop-again c = (refl, search rules, rw (target_number_more, c.before.before.loop.invariant.2))
+loop-k-preserved : tie.Need-loop-k-preserved invariant-loop-k decreases-loop-k
+loop-k-preserved c = (refl, search rules, rw (target_number_more, c.loop-k.invariant.2))
 
-returns-2 : tie.Need-returns-2 invariant-loop decreases-loop
-returns-2 c =
-    let d = c.before.before in
-    let s = d.before in
-    let e : c.before.loop.k ≡ s.args.w = omega arith in
-    let q : c.before.loop.t ≡ target_number s.args.lent.now ((s.args.i - 1) * s.args.w) s.args.w = rw e at c.before.loop.invariant.2 in
-    (rw (ne_eqb _ 0 d.if1.false) q, rw q (target_number_lt _ _ _))
+returns : tie.Need-returns invariant-loop-k decreases-loop-k
+returns c =
+    let e : c.loop-k.k ≡ c.args.w = omega arith in
+    let q : c.loop-k.t ≡ target_number c.args.lent.now ((c.args.i - 1) * c.args.w) c.args.w = rw e at c.loop-k.invariant.2 in
+    (rw (ne_eqb _ 0 c.if-i-eq0.false) q, rw q (target_number_lt _ _ _))
 
-pub lent-row-spec : {M : Type 1} → statement M
-lent-row-spec =
-    tie.close
-    (tie.spec
-    invariant-loop
-    decreases-loop
-    returns
-    sub_at
-    mul_at
-    loop-holds
-    mul-t
-    add-t
-    shared-slice-read-t
-    cast_t
-    add-t-2
-    add-k
-    loop-less
-    loop-again
-    returns-2)
+pub lent_row_spec : {M : Type 1} → statement M
+lent_row_spec = tie.close (tie.spec invariant-loop-k decreases-loop-k returns-then-i-eq0 overflow_sub-at overflow_mul-at loop-k-init overflow_mul-t overflow_add-t bounds-lent-at overflow_cast-t overflow_add-t-in-loop-k overflow_step-k loop-k-smaller loop-k-preserved returns)

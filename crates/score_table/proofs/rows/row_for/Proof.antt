@@ -12,21 +12,18 @@ use Rattle.score_table.proofs.rows.row_for.Tie as tie
 small : (c : tie.Start) → let g = c.args in row_for g.want g.w g.c < 2 ^ g.w
 small c = row_lt c.args.want.halves c.args.w c.args.c c.requires.1
 
-whole-row-requires : tie.Need-whole-row-requires
-whole-row-requires c κs =
-    let s = c.before in
-    (width_le _ _ s.requires.0, s.requires.0.even c.if1.true, rw c.if1.true at s.requires.1)
+whole_row-requires : tie.Need-whole_row-requires
+whole_row-requires c κs =
+    (width_le _ _ c.requires.0, c.requires.0.even c.if-want.true, rw c.if-want.true at c.requires.1)
 
-returns : tie.Need-returns
-returns c =
-    let s = c.before.before in
-    let e : c.whole_row.result ≡ row_for s.args.want s.args.w s.args.c = rw c.before.if1.true c.whole_row.ensures in
-    (e, rw e (small s))
+returns-then-want : tie.Need-returns-then-want
+returns-then-want c =
+    let e : c.whole_row.result ≡ row_for c.args.want c.args.w c.args.c = rw c.if-want.true c.whole_row.ensures in
+    (e, rw e (small c.before.before))
 
-returns-2 : tie.Need-returns-2
-returns-2 c =
-    let s = c.before in
-    (rw c.if1.false, rw c.if1.false at s.requires.1)
+returns-else-want : tie.Need-returns-else-want
+returns-else-want c =
+    (rw c.if-want.false, rw c.if-want.false at c.requires.1)
 
-pub row-for-spec : {M : Type 1} → statement M
-row-for-spec = tie.close (tie.spec whole-row-requires returns returns-2)
+pub row_for_spec : {M : Type 1} → statement M
+row_for_spec = tie.close (tie.spec whole_row-requires returns-then-want returns-else-want)

@@ -14,72 +14,55 @@ use borrow.Author.Rules.{rules}
 use Rattle.score_table.proofs.rows.row_kept.Statement.{statement}
 use Rattle.score_table.proofs.rows.row_kept.Tie as tie
 
-abbrev invariant-loop : tie.invariant-loop
-invariant-loop target w givens at row k₀ k = (k ≤ w) × (all_below (λ i. mark_kept (get_or (marks_of target givens) (at + i) 0) (digit_in w row (i + 1))) k ≡ true)
+abbrev invariant-loop-k : tie.invariant-loop-k
+invariant-loop-k target w givens at row k₀ k = (k ≤ w) × (all_below (λ i. mark_kept (get_or (marks_of target givens) (at + i) 0) (digit_in w row (i + 1))) k ≡ true)
 
-abbrev decreases-loop : tie.decreases-loop
-decreases-loop target w givens at row k₀ k = w - k
-
-loop-holds : tie.Need-loop-init invariant-loop decreases-loop
-loop-holds c = (search rules, all_none _)
-
-add-mark-at : tie.Need-overflow-add-mark-at invariant-loop decreases-loop
-add-mark-at c = search rules
-
-mark-at-requires : tie.Need-mark-at-requires invariant-loop decreases-loop
-mark-at-requires c κs = search rules
-
-add-mark-kept : tie.Need-overflow-add-mark-kept invariant-loop decreases-loop
-add-mark-kept c = search rules
-
-sub-mark-kept : tie.Need-overflow-sub-mark-kept invariant-loop decreases-loop
-sub-mark-kept c = search rules
-
-shr-mark-kept : tie.Need-overflow-shr-mark-kept invariant-loop decreases-loop
-shr-mark-kept c = search rules
-
-mark-kept-requires : tie.Need-mark-kept-requires invariant-loop decreases-loop
-mark-kept-requires c κs = search rules
+abbrev decreases-loop-k : tie.decreases-loop-k
+decreases-loop-k target w givens at row k₀ k = w - k
 
 -- whether the cell keeps its mark
-kept : (c : tie.After-mark-kept invariant-loop decreases-loop) →
-    let l = c.before.before.before in
-    let g = l.before.before.args in
-    c.mark-kept.result ≡ mark_kept (get_or (marks_of g.target g.givens.now) (g.at + l.loop.k) 0) (digit_in g.w g.row (l.loop.k + 1))
-kept c = rw c.before.mark-at.ensures at c.mark-kept.ensures
+kept : (c : tie.After-mark_kept invariant-loop-k decreases-loop-k) →
+    let g = c.args in
+    c.mark_kept.result ≡ mark_kept (get_or (marks_of g.target g.givens.now) (g.at + c.loop-k.k) 0) (digit_in g.w g.row (c.loop-k.k + 1))
+kept c = rw c.mark_at.ensures at c.mark_kept.ensures
 
-returns : tie.Need-returns invariant-loop decreases-loop
+loop-k-init : tie.Need-loop-k-init invariant-loop-k decreases-loop-k
+loop-k-init c = (search rules, all_none _)
+
+overflow_add-at : tie.Need-overflow_add-at invariant-loop-k decreases-loop-k
+overflow_add-at c = search rules
+
+mark_at-requires : tie.Need-mark_at-requires invariant-loop-k decreases-loop-k
+mark_at-requires c κs = search rules
+
+overflow_add-k : tie.Need-overflow_add-k invariant-loop-k decreases-loop-k
+overflow_add-k c = search rules
+
+overflow_sub-w : tie.Need-overflow_sub-w invariant-loop-k decreases-loop-k
+overflow_sub-w c = search rules
+
+overflow_shr-row : tie.Need-overflow_shr-row invariant-loop-k decreases-loop-k
+overflow_shr-row c = search rules
+
+mark_kept-requires : tie.Need-mark_kept-requires invariant-loop-k decreases-loop-k
+mark_kept-requires c κs = search rules
+
+returns-then-not-mark_kept : tie.Need-returns-then-not-mark_kept invariant-loop-k decreases-loop-k
 unfolding row_kept
-returns c = sym (all_false _ _ _ c.before.before.before.loop-test.true (sym (kept c.before) ∙ not-true _ c.if1.true))
+returns-then-not-mark_kept c = sym (all_false _ _ _ c.loop-k-test.true (sym (kept c.before) ∙ c.if-not-mark_kept.true))
 
-add-k : tie.Need-overflow-add-k invariant-loop decreases-loop
-add-k c = search rules
+overflow_step-k : tie.Need-overflow_step-k invariant-loop-k decreases-loop-k
+overflow_step-k c = search rules
 
-loop-less : tie.Need-loop-smaller invariant-loop decreases-loop
-loop-less c = search rules
+loop-k-smaller : tie.Need-loop-k-smaller invariant-loop-k decreases-loop-k
+loop-k-smaller c = search rules
 
-loop-again : tie.Need-loop-preserved invariant-loop decreases-loop
-loop-again c = (search rules, all_more _ _ c.before.before.before.before.loop.invariant.1 (sym (kept c.before) ∙ not-false _ c.if1.false))
+loop-k-preserved : tie.Need-loop-k-preserved invariant-loop-k decreases-loop-k
+loop-k-preserved c = (search rules, all_more _ _ c.loop-k.invariant.1 (sym (kept c.before) ∙ c.if-not-mark_kept.false))
 
-returns-2 : tie.Need-returns-2 invariant-loop decreases-loop
+returns : tie.Need-returns invariant-loop-k decreases-loop-k
 unfolding row_kept
-returns-2 c = let e : c.before.loop.k ≡ c.before.before.before.args.w = omega arith in sym (rw e at c.before.loop.invariant.1)
+returns c = let e : c.loop-k.k ≡ c.args.w = omega arith in sym (rw e at c.loop-k.invariant.1)
 
-pub row-kept-spec : {M : Type 1} → statement M
-row-kept-spec =
-    tie.close
-    (tie.spec
-    invariant-loop
-    decreases-loop
-    loop-holds
-    add-mark-at
-    mark-at-requires
-    add-mark-kept
-    sub-mark-kept
-    shr-mark-kept
-    mark-kept-requires
-    returns
-    add-k
-    loop-less
-    loop-again
-    returns-2)
+pub row_kept_spec : {M : Type 1} → statement M
+row_kept_spec = tie.close (tie.spec invariant-loop-k decreases-loop-k loop-k-init overflow_add-at mark_at-requires overflow_add-k overflow_sub-w overflow_shr-row mark_kept-requires returns-then-not-mark_kept overflow_step-k loop-k-smaller loop-k-preserved returns)

@@ -14,65 +14,50 @@ use borrow.Author.Rules.{rules}
 use Rattle.score_table.proofs.rows.steps_to.Statement.{statement}
 use Rattle.score_table.proofs.rows.steps_to.Tie as tie
 
-abbrev invariant-loop : tie.invariant-loop
-invariant-loop next w a b c t j₀ j = (j ≤ w + 2) × (all_below (becomes (entry_of next) w a b c t) j ≡ true)
+abbrev invariant-loop-j : tie.invariant-loop-j
+invariant-loop-j next w a b c t j₀ j = (j ≤ w + 2) × (all_below (becomes (entry_of next) w a b c t) j ≡ true)
 
-abbrev decreases-loop : tie.decreases-loop
-decreases-loop next w a b c t j₀ j = w + 2 - j
-
-loop-holds : tie.Need-loop-init invariant-loop decreases-loop
-loop-holds c = (search rules, all_none _)
-
-add-loop : tie.Need-overflow-add-loop invariant-loop decreases-loop
-add-loop c = search rules
-
-column-requires : tie.Need-column-requires invariant-loop decreases-loop
-column-requires c κs = search rules
+abbrev decreases-loop-j : tie.decreases-loop-j
+decreases-loop-j next w a b c t j₀ j = w + 2 - j
 
 -- the column's test
-passed : (c : tie.After-passes invariant-loop decreases-loop) →
-    let l = c.before.before.before in
-    let g = l.before.args in
-    c.passes.result ≡ becomes (entry_of g.next.now) g.w g.a g.b g.c g.t l.loop.j
+passed : (c : tie.After-passes invariant-loop-j decreases-loop-j) →
+    let g = c.args in
+    c.passes.result ≡ becomes (entry_of g.next.now) g.w g.a g.b g.c g.t c.loop-j.j
 passed c =
-    let l = c.before.before.before in
-    let g = l.before.args in
+    let g = c.args in
     c.passes.ensures
-    ∙ rw c.before.column.ensures.0
-    (passes_is (entry_of g.next.now) g.w g.a g.b g.c g.t l.loop.j (search rules) (search rules) (search rules) (search rules) (omega arith))
+    ∙ rw c.column.ensures.0
+    (passes_is (entry_of g.next.now) g.w g.a g.b g.c g.t c.loop-j.j (search rules) (search rules) (search rules) (search rules) (omega arith))
 
-passes-requires : tie.Need-passes-requires invariant-loop decreases-loop
+loop-j-init : tie.Need-loop-j-init invariant-loop-j decreases-loop-j
+loop-j-init c = (search rules, all_none _)
+
+overflow_add-w : tie.Need-overflow_add-w invariant-loop-j decreases-loop-j
+overflow_add-w c = search rules
+
+column-requires : tie.Need-column-requires invariant-loop-j decreases-loop-j
+column-requires c κs = search rules
+
+passes-requires : tie.Need-passes-requires invariant-loop-j decreases-loop-j
 passes-requires c κs = search rules
 
-returns : tie.Need-returns invariant-loop decreases-loop
+returns-then-not-passes : tie.Need-returns-then-not-passes invariant-loop-j decreases-loop-j
 unfolding steps_to
-returns c = sym (all_false _ _ _ (omega arith) (sym (passed c.before) ∙ not-true _ c.if1.true))
+returns-then-not-passes c = sym (all_false _ _ _ (omega arith) (sym (passed c.before) ∙ c.if-not-passes.true))
 
-add-j : tie.Need-overflow-add-j invariant-loop decreases-loop
-add-j c = search rules
+overflow_add-j : tie.Need-overflow_add-j invariant-loop-j decreases-loop-j
+overflow_add-j c = search rules
 
-loop-less : tie.Need-loop-smaller invariant-loop decreases-loop
-loop-less c = search rules
+loop-j-smaller : tie.Need-loop-j-smaller invariant-loop-j decreases-loop-j
+loop-j-smaller c = search rules
 
-loop-again : tie.Need-loop-preserved invariant-loop decreases-loop
-loop-again c = (search rules, all_more _ _ c.before.before.before.before.loop.invariant.1 (sym (passed c.before) ∙ not-false _ c.if1.false))
+loop-j-preserved : tie.Need-loop-j-preserved invariant-loop-j decreases-loop-j
+loop-j-preserved c = (search rules, all_more _ _ c.loop-j.invariant.1 (sym (passed c.before) ∙ c.if-not-passes.false))
 
-returns-2 : tie.Need-returns-2 invariant-loop decreases-loop
+returns : tie.Need-returns invariant-loop-j decreases-loop-j
 unfolding steps_to
-returns-2 c = let e : c.before.loop.j ≡ c.before.before.args.w + 2 = omega arith in sym (rw e at c.before.loop.invariant.1)
+returns c = let e : c.loop-j.j ≡ c.args.w + 2 = omega arith in sym (rw e at c.loop-j.invariant.1)
 
-pub steps-to-spec : {M : Type 1} → statement M
-steps-to-spec =
-    tie.close
-    (tie.spec
-    invariant-loop
-    decreases-loop
-    loop-holds
-    add-loop
-    column-requires
-    passes-requires
-    returns
-    add-j
-    loop-less
-    loop-again
-    returns-2)
+pub steps_to_spec : {M : Type 1} → statement M
+steps_to_spec = tie.close (tie.spec invariant-loop-j decreases-loop-j loop-j-init overflow_add-w column-requires passes-requires returns-then-not-passes overflow_add-j loop-j-smaller loop-j-preserved returns)

@@ -1,0 +1,22 @@
+-- `job::numbers::stage_of` meets its contract, by the mark and then the unit's round.
+-- Assumes nothing.
+use mathlib.Core.Path.{◌∙◌}
+use borrow.Author.Rules.{rules}
+use borrow.Author.Tests.{ne_eqb}
+use Rattle.job.specs.Jobs.{stage_of}
+use Rattle.job.proofs.Rounds.{fills_left}
+use Rattle.job.proofs.numbers.stage_of.Goals as goal
+
+pub returns-in-1 : goal.returns-in-1
+unfolding stage_of
+returns-in-1 c = simp c.in-1.is
+
+pub returns-in-2 : goal.returns-in-2
+unfolding stage_of
+returns-in-2 c = simp c.in-2.is
+
+pub returns-in_default : goal.returns-in_default
+unfolding stage_of
+returns-in_default c =
+    c.running.ensures
+    ∙ simp (ne_eqb _ 1 c.in_default.in_default-own.rest.0.1, ne_eqb _ 2 c.in_default.in_default-own.rest.1, fills_left c.round_of-x.ensures)

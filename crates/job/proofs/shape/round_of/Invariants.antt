@@ -1,0 +1,17 @@
+-- `job::shape::round_of` meets its contract. The loop's invariant: the unit is `place` units after the start of round `rows`.
+-- Assumes nothing.
+use mathlib.Core.Path.{◌≡◌, refl}
+use Prim.Native.Nat.{ℕ, ◌+◌, ◌-◌, ◌≤◌, ◌<◌}
+use native.Mathlib.Numerals.{add-one}
+use native.Mathlib.Omega.{arith}
+use Rattle.job_kind.specs.Kinds.{round_start, round_work}
+use Rattle.job.specs.Inner.{RoundIs}
+use Rattle.job_kind.specs.declared.Kind.{Kind}
+use Rattle.job_kind.proofs.Shapes.{shape_rounds}
+use Rattle.job.proofs.shape.round_of.Given as goal
+
+abbrev pub invariant-loop-rows : goal.invariant-loop-rows
+invariant-loop-rows l = (l.rows ≤ l.h) × (l.units ≡ round_start l.kind l.w l.h l.rows + l.place)
+
+abbrev pub decreases-loop-rows : goal.decreases-loop-rows
+decreases-loop-rows l = l.h - l.rows

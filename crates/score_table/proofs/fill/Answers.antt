@@ -1,0 +1,17 @@
+-- `score_table::fill` meets its contract: nothing is written unless there are such entries and the memory fits.
+-- Assumes nothing.
+use mathlib.Core.Path.{◌∙◌, sym}
+use borrow.Author.Rules.{rules}
+use borrow.Author.Tests.{not-true, not-false}
+use Rattle.score_table.proofs.Calls.{fits_read, fill_unfit, fill_done}
+use Rattle.score_table.proofs.fill.Goals as goal
+
+pub returns-then-not-fill_fits : goal.returns-then-not-fill_fits
+returns-then-not-fill_fits c = fill_unfit _ _ _ _ _ _ _ _ _ _ _ (sym c.fill_fits.ensures ∙ c.if-not-fill_fits.true)
+
+pub write_entries-requires : goal.write_entries-requires
+write_entries-requires c = fits_read _ _ _ _ _ _ _ _ _ _ (sym c.fill_fits.ensures ∙ c.if-not-fill_fits.false)
+
+pub returns : goal.returns
+returns c =
+    c.write_entries.ensures ∙ fill_done _ _ _ _ _ _ _ _ _ _ _ (sym c.fill_fits.ensures ∙ c.if-not-fill_fits.false)
