@@ -38,8 +38,8 @@ job_of-requires c κs = let s = (numbers_at _ _ (numbers_fit_lem c)).frame.size 
 returns : tie.Need-returns
 unfolding resume_rule
 returns c = record {
-  says = rw c.Job-of.ensures (simp (numbers_fit_lem c.before, numbers_back _ _ (numbers_fit_lem c.before)));
-  job = λ j e. handed e c.Job-of.ensures;
+  says = rw c.job_of.ensures (simp (numbers_fit_lem c.before, numbers_back _ _ (numbers_fit_lem c.before)));
+  job = λ j e. handed e c.job_of.ensures;
 }
 
 pub resume_spec : {M : Type 1} → statement M

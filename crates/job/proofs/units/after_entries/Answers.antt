@@ -8,4 +8,4 @@ pub returns : goal.returns
 unfolding stage_of
 returns c =
     let k = c.kept_in-c.ensures in
-    rw (c.running-stage.ensures, k.0, k.1, k.2, c.requires.1)
+    rw (c.running-stage.ensures, k.0, k.1, k.2, c.requires.more_value)
