@@ -4,7 +4,7 @@ use mathlib.Core.Path.{◌≡◌, refl, sym, ap, ap₂, ◌∙◌}
 use mathlib.Core.Bool.{Bool, true, false, cond}
 use mathlib.Core.Option.{none}
 use mathlib.Core.List.{List, [], ◌∷◌, ◌++◌, map, flat_map, append-nil}
-use Prim.Native.Nat.{ℕ, zero, suc, ◌*◌, ◌-◌, ◌<◌, ◌≤◌}
+use Prim.Native.Nat.{ℕ, zero, suc, ◌+◌, ◌*◌, ◌-◌, ◌<◌, ◌≤◌}
 use native.Mathlib.Nat.{not-suc-le-zero, le_of_suc-le-suc, zero-lt-suc, mul-zero}
 use native.Mathlib.Omega.{arith}
 use borrow.Author.Tests.{le-leb}
@@ -23,7 +23,7 @@ use Rattle.writer.specs.Writing.{board_rows, row_text, board_text, text_length, 
 use Rattle.writer.proofs.BoardRows.{rest_long, board_text_long}
 use Rattle.plaintext.specs.declared.Read as I
 use Rattle.plaintext.specs.Lines.{Line, lines_of}
-use Rattle.plaintext.specs.Reading.{row, is_comment, letter_at, judge, judge_lines, judged, first_bad, rows_of, width_of, filled, cells_of, size_rule, read_rule, board_over, read_says}
+use Rattle.plaintext.specs.Reading.{Judged, row, is_comment, letter_at, judge, judge_lines, judged, first_bad, rows_of, width_of, filled, cells_of, size_rule, read_rule, board_over, read_says}
 use Rattle.plaintext.specs.Theorems.{AcceptedAsItIs, RoundTrip}
 use Rattle.plaintext.proofs.Cells.{AllCells, AllRows, all_of, board_all}
 use Rattle.plaintext.proofs.Cutting.{added}
@@ -77,7 +77,9 @@ judge_row_lem at r a =
 judge_rows : (at : ℕ) (rs : List (List ℕ)) → AllRows rs → judge_lines at (lines_of (flat_map row_text rs)) ≡ map row rs
 unfolding judge_lines lines_of flat_map
 judge_rows at [] a = refl
-judge_rows at (r ∷ rs) a = rw (row_line r (flat_map row_text rs), judge_row_lem at r a.0, judge_rows _ rs a.1)
+judge_rows at (r ∷ rs) a =
+    rw (row_line r (flat_map row_text rs), judge_row_lem at r a.0)
+    (ap {B = List Judged} (λ js. row r ∷ js) (judge_rows (at + length (line_of r).bytes + 1) rs a.1))
 
 -- ---- judged lines that are all rows
 none_bad : (rs : List (List ℕ)) → first_bad (map row rs) ≡ none
