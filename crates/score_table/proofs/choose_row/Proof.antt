@@ -6,7 +6,7 @@ use Prim.Native.Nat.{suc, ◌+◌, ◌*◌, ◌-◌, ◌^◌, ◌≤◌, ◌<◌
 use native.Mathlib.Nat.{mul-le-mul}
 use native.Mathlib.Omega.{arith}
 use borrow.Author.Rules.{rules}
-use borrow.Author.Tests.{leb-true, not-true, not-false}
+use borrow.Author.Tests.{leb-true}
 use lib.ListN.{length}
 use Rattle.board.specs.Boards.{max_width, max_height, max_mirror_width}
 use Rattle.rule.specs.Rule.{entry_of}

@@ -5,7 +5,6 @@ use mathlib.Core.Bool.{true}
 use Prim.Native.Nat.{◌+◌, ◌^◌, ◌≤◌}
 use native.Mathlib.Omega.{arith}
 use borrow.Author.Rules.{rules}
-use borrow.Author.Tests.{not-true, not-false}
 use Rattle.board.specs.Boards.{max_width}
 use Rattle.score_table.specs.Rows.{digits_of}
 use Rattle.score_table.specs.Calls.{call_fits, layer_fits}
