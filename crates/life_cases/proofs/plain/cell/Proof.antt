@@ -4,55 +4,42 @@ use Rattle.std.proofs.Common.{◌-◌, ◌*◌, ◌≤◌, mul-le-mul, arith, ru
 use Rattle.life_cases.proofs.plain.cell.Statement.{statement}
 use Rattle.life_cases.proofs.plain.cell.Tie as tie
 
-returns : tie.Need-returns
-returns c = search rules
-
 -- past the tests the row's first place is at most 600
-row : (c : tie.Else4) → let g = c.before.before.before.before.args in (g.i - 2) * g.w ≤ 600
+row : (c : tie.Else-w-j) → let g = c.args in (g.i - 2) * g.w ≤ 600
 row c = mul-le-mul {n₂ = 60} {m₂ = 10} (omega arith) (omega arith)
 
-add-if2 : tie.Need-overflow-add-if2
-add-if2 c = search rules
+returns-then-i-lt2 : tie.Need-returns-then-i-lt2
+returns-then-i-lt2 c = search rules
 
-returns-2 : tie.Need-returns-2
-returns-2 c = search rules
+overflow_add-h : tie.Need-overflow_add-h
+overflow_add-h c = search rules
 
-returns-3 : tie.Need-returns-3
-returns-3 c = search rules
+returns-then-h-i : tie.Need-returns-then-h-i
+returns-then-h-i c = search rules
 
-add-if4 : tie.Need-overflow-add-if4
-add-if4 c = search rules
+returns-then-j-lt2 : tie.Need-returns-then-j-lt2
+returns-then-j-lt2 c = search rules
 
-returns-4 : tie.Need-returns-4
-returns-4 c = search rules
+overflow_add-w : tie.Need-overflow_add-w
+overflow_add-w c = search rules
 
-mul-k : tie.Need-overflow-mul-k
-mul-k c = let l = row c in omega arith
+returns-then-w-j : tie.Need-returns-then-w-j
+returns-then-w-j c = search rules
 
-add-k : tie.Need-overflow-add-k
-add-k c = let l = row c in omega arith
+overflow_mul-k : tie.Need-overflow_mul-k
+overflow_mul-k c = let l = row c in omega arith
 
-shared-slice-read-result : tie.Need-shared-slice-read-result
-shared-slice-read-result c = search rules
+overflow_add-k : tie.Need-overflow_add-k
+overflow_add-k c = let l = row c in omega arith
 
-returns-5 : tie.Need-returns-5
-returns-5 c = search rules
+bounds-cells-k : tie.Need-bounds-cells-k
+bounds-cells-k c = search rules
 
-returns-6 : tie.Need-returns-6
-returns-6 c = search rules
+returns-then-k-cells : tie.Need-returns-then-k-cells
+returns-then-k-cells c = search rules
 
-pub cell-spec : {M : Type 1} → statement M
-cell-spec =
-    tie.close
-    (tie.spec
-    returns
-    add-if2
-    returns-2
-    returns-3
-    add-if4
-    returns-4
-    mul-k
-    add-k
-    shared-slice-read-result
-    returns-5
-    returns-6)
+returns-else-k-cells : tie.Need-returns-else-k-cells
+returns-else-k-cells c = search rules
+
+pub cell_spec : {M : Type 1} → statement M
+cell_spec = tie.close (tie.spec returns-then-i-lt2 overflow_add-h returns-then-h-i returns-then-j-lt2 overflow_add-w returns-then-w-j overflow_mul-k overflow_add-k bounds-cells-k returns-then-k-cells returns-else-k-cells)
