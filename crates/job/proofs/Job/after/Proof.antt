@@ -5,7 +5,6 @@ use mathlib.Core.Bool.{true}
 use Prim.Native.Nat.{◌≤◌}
 use native.Mathlib.Omega.{arith}
 use borrow.Author.Rules.{rules}
-use borrow.Author.Tests.{not-true, not-false}
 use Rattle.job.specs.Jobs.{runs_within}
 use Rattle.job.proofs.Rounds.{fills_on, units_on, rows_left}
 use Rattle.job.proofs.Next.{runs_within_lem, after_never, after_fills_lem, after_chooses, after_spent, rows_early}

@@ -3,7 +3,6 @@
 use mathlib.Core.Path.{◌≡◌, sym, ◌∙◌}
 use mathlib.Core.Bool.{true}
 use borrow.Author.Rules.{rules}
-use borrow.Author.Tests.{not-true, not-false}
 use Rattle.job.specs.Jobs.{runs_within}
 use Rattle.job.proofs.Rounds.{fills_on, units_on}
 use Rattle.job.proofs.Next.{runs_within_lem, entries_never, entries_left, entries_few}

@@ -1,7 +1,6 @@
 -- `job::units::after_choice` meets its contract, by what is chosen.
 -- Assumes nothing.
 use mathlib.Core.Path.{◌∙◌}
-use borrow.Author.Rules.{rules}
 use Rattle.job_kind.specs.Kinds.{shape_of}
 use Rattle.job.proofs.Next.{stands_later, ends_first}
 use Rattle.job.proofs.units.after_choice.Goals as goal

@@ -1,6 +1,5 @@
 -- `job::units::after_entries` meets its contract: the job of the next numbers, where entries are written.
 -- Assumes nothing.
-use borrow.Author.Rules.{rules}
 use Rattle.job.specs.Jobs.{stage_of}
 use Rattle.job.proofs.units.after_entries.Goals as goal
 

@@ -2,7 +2,6 @@
 -- Assumes nothing.
 use native.Mathlib.Numerals.{add-one}
 use native.Mathlib.Omega.{arith}
-use borrow.Author.Rules.{rules}
 use Rattle.job.proofs.Next.{units_few}
 use Rattle.job.proofs.units.after_none.Goals as goal
 
