@@ -48,10 +48,10 @@ no_bang : (r : List ℕ) → is_comment (map letter_of r) ≡ false
 no_bang [] = refl
 no_bang (c ∷ cs) = letter_cases (λ (b : ℕ). eqb b bang ≡ false) refl refl (eqb c 0)
 
-no_CR : (r : List ℕ) (k : ℕ) → eqb (get_or (map letter_of r) k 0) CR ≡ false
-no_CR [] k = refl
-no_CR (c ∷ cs) zero = letter_cases (λ (b : ℕ). eqb b CR ≡ false) refl refl (eqb c 0)
-no_CR (c ∷ cs) (suc k) = no_CR cs k
+no_cr : (r : List ℕ) (k : ℕ) → eqb (get_or (map letter_of r) k 0) CR ≡ false
+no_cr [] k = refl
+no_cr (c ∷ cs) zero = letter_cases (λ (b : ℕ). eqb b CR ≡ false) refl refl (eqb c 0)
+no_cr (c ∷ cs) (suc k) = no_cr cs k
 
 all_letters : (r : List ℕ) (k : ℕ) → k < length (map letter_of r) → letter_at (map letter_of r) k ≡ true
 all_letters [] k h = absurd (not-suc-le-zero h)
@@ -71,7 +71,7 @@ judge_row_lem : (at : ℕ) (r : List ℕ) → AllCells r → judge at (line_of r
 unfolding judge
 judge_row_lem at r a =
     let l = map letter_of r in
-    rw (no_bang r, no_CR r (length l - 1), none_of (letter_at l) (length l) (all_letters r), cells_back r a)
+    rw (no_bang r, no_cr r (length l - 1), none_of (letter_at l) (length l) (all_letters r), cells_back r a)
 
 -- the text of rows is judged as those rows
 judge_rows : (at : ℕ) (rs : List (List ℕ)) → AllRows rs → judge_lines at (lines_of (flat_map row_text rs)) ≡ map row rs
