@@ -1,15 +1,12 @@
 -- `runner::run` meets its contract. The loop's invariant: a list of working calls comes to the state now, with the job unfinished. The measure: the
 -- units that a job with a best board has left.
 -- Assumes nothing.
-use mathlib.Core.Path.{◌≡◌, refl, ◌∙◌, ap}
+use mathlib.Core.Path.{◌≡◌}
 use Prim.Native.Nat.{◌-◌}
-use native.Mathlib.Omega.{arith}
-use borrow.Author.Rules.{rules}
 use lib.ListN.{length}
 use Rattle.job_kind.specs.Kinds.{board_length}
-use Rattle.solver.specs.Working.{status_says}
 use Rattle.third_demand.specs.Lent.{lent_state}
-use Rattle.runner.proofs.Turns.{Going, ready_begins, turn_goes_on, turn_ends}
+use Rattle.runner.proofs.Turns.{Going}
 use Rattle.runner.proofs.run.Given as goal
 
 abbrev pub invariant-loop-score : goal.invariant-loop-score

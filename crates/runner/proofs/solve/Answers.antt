@@ -1,6 +1,5 @@
 -- `runner::solve` meets its contract: what opening refuses it refuses, and a job that opening hands out it runs.
 -- Assumes nothing.
-use borrow.Author.Rules.{rules}
 use Rattle.runner.proofs.Openings.{refused_solves, opened_ready, run_solves}
 use Rattle.runner.proofs.solve.Goals as goal
 
