@@ -1,0 +1,18 @@
+-- `puzzle::give_live` meets its contract. The loop's invariant: the first i givens are written over the cells. The measure: the cells left.
+-- Assumes nothing.
+use mathlib.Core.Path.{◌≡◌, refl, sym, ◌∙◌, ap}
+use mathlib.Core.List.{List, map, append-nil}
+use Prim.Native.Nat.{ℕ, suc, ◌-◌, ◌≤◌, ◌<◌}
+use native.Mathlib.Omega.{arith}
+use borrow.Author.Rules.{rules}
+use lib.ListN.{length, length-set, get_or, length-map, take, drop, drop_of_length-le, get_or-map}
+use lib.Seq.{drop-cons, get_or_at, length-take-le}
+use Rattle.writer.proofs.Over.{over, over_more, over_all}
+use Rattle.puzzle.specs.Texts.{given_of}
+use Rattle.puzzle.proofs.give_live.Given as goal
+
+abbrev pub invariant-loop-i : goal.invariant-loop-i
+invariant-loop-i l = (l.i ≤ l.i-end) × (l.cells ≡ over (map given_of l.initial.cells) l.i l.initial.cells) × (length l.cells ≡ length l.initial.cells)
+
+abbrev pub decreases-loop-i : goal.decreases-loop-i
+decreases-loop-i l = l.i-end - l.i
