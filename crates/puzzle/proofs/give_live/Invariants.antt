@@ -1,13 +1,10 @@
 -- `puzzle::give_live` meets its contract. The loop's invariant: the first i givens are written over the cells. The measure: the cells left.
 -- Assumes nothing.
-use mathlib.Core.Path.{◌≡◌, refl, sym, ◌∙◌, ap}
-use mathlib.Core.List.{List, map, append-nil}
-use Prim.Native.Nat.{ℕ, suc, ◌-◌, ◌≤◌, ◌<◌}
-use native.Mathlib.Omega.{arith}
-use borrow.Author.Rules.{rules}
-use lib.ListN.{length, length-set, get_or, length-map, take, drop, drop_of_length-le, get_or-map}
-use lib.Seq.{drop-cons, get_or_at, length-take-le}
-use Rattle.writer.proofs.Over.{over, over_more, over_all}
+use mathlib.Core.Path.{◌≡◌}
+use mathlib.Core.List.{map}
+use Prim.Native.Nat.{◌-◌, ◌≤◌}
+use lib.ListN.{length}
+use Rattle.writer.proofs.Over.{over}
 use Rattle.puzzle.specs.Texts.{given_of}
 use Rattle.puzzle.proofs.give_live.Given as goal
 

@@ -1,6 +1,5 @@
 -- `puzzle::solve_cells` meets its contract, case by case of what solving answers.
 -- Assumes nothing.
-use borrow.Author.Rules.{rules}
 use Rattle.puzzle.proofs.Solving.{solved_board, score_short, prints_solved}
 use Rattle.puzzle.proofs.solve_cells.Goals as goal
 

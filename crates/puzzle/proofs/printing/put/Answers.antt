@@ -2,11 +2,10 @@
 -- left.
 -- Assumes nothing.
 use mathlib.Core.Path.{◌≡◌, refl, ◌∙◌}
-use Prim.Native.Nat.{◌-◌, ◌≤◌}
 use native.Mathlib.Omega.{arith}
 use borrow.Author.Rules.{rules}
 use lib.ListN.{length, length-set}
-use Rattle.writer.proofs.Over.{over, over_more, over_all}
+use Rattle.writer.proofs.Over.{over_more, over_all}
 use Rattle.puzzle.proofs.printing.put.Goals as goal
 
 pub loop-i-init : goal.loop-i-init

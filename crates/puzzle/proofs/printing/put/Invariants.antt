@@ -1,12 +1,10 @@
 -- `puzzle::printing::put` meets its contract. The loop's invariant: the first i bytes are written over the output. The measure: the bytes
 -- left.
 -- Assumes nothing.
-use mathlib.Core.Path.{◌≡◌, refl, ◌∙◌}
+use mathlib.Core.Path.{◌≡◌}
 use Prim.Native.Nat.{◌-◌, ◌≤◌}
-use native.Mathlib.Omega.{arith}
-use borrow.Author.Rules.{rules}
-use lib.ListN.{length, length-set}
-use Rattle.writer.proofs.Over.{over, over_more, over_all}
+use lib.ListN.{length}
+use Rattle.writer.proofs.Over.{over}
 use Rattle.puzzle.proofs.printing.put.Given as goal
 
 abbrev pub invariant-loop-i : goal.invariant-loop-i

@@ -1,7 +1,6 @@
 -- `puzzle::printing::put_number` meets its contract: one, two or three digits.
 -- Assumes nothing.
 use native.Mathlib.Omega.{arith}
-use borrow.Author.Rules.{rules}
 use lib.ListN.{length-set}
 use Rattle.puzzle.proofs.Pieces.{prints_one, prints_two, prints_three}
 use Rattle.puzzle.proofs.printing.put_number.Goals as goal

@@ -1,6 +1,5 @@
 -- `puzzle::printing::put_refusal` meets its contract: its number is that of the refusal.
 -- Assumes nothing.
-use borrow.Author.Rules.{rules}
 use Rattle.puzzle.proofs.printing.put_refusal.Goals as goal
 
 pub returns : goal.returns
