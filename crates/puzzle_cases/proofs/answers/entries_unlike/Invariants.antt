@@ -1,6 +1,6 @@
 -- `puzzle_cases::answers::entries_unlike` is safe and ends: the place rises to the length.
 -- Assumes nothing.
-use Rattle.std.proofs.Common.{◌≡◌, ◌-◌, ◌≤◌, length, rules}
+use Rattle.std.proofs.Common.{◌≡◌, ◌-◌, ◌≤◌, length}
 use Rattle.puzzle_cases.proofs.answers.entries_unlike.Given as goal
 
 abbrev pub invariant-loop-k : goal.invariant-loop-k

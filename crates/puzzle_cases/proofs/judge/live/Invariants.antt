@@ -1,6 +1,6 @@
 -- `puzzle_cases::judge::live` is safe and ends: the place rises to 900.
 -- Assumes nothing.
-use Rattle.std.proofs.Common.{◌-◌, ◌≤◌, rules}
+use Rattle.std.proofs.Common.{◌-◌, ◌≤◌}
 use Rattle.puzzle_cases.proofs.judge.live.Given as goal
 
 abbrev pub invariant-loop-k : goal.invariant-loop-k

@@ -1,6 +1,6 @@
 -- `puzzle_cases::judge::read` is safe and ends: the place rises to the length.
 -- Assumes nothing.
-use Rattle.std.proofs.Common.{◌-◌, ◌≤◌, length, rules}
+use Rattle.std.proofs.Common.{◌-◌, ◌≤◌, length}
 use Rattle.puzzle_cases.proofs.judge.read.Given as goal
 
 abbrev pub invariant-loop-i : goal.invariant-loop-i

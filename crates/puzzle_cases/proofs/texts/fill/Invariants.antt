@@ -1,6 +1,6 @@
 -- `puzzle_cases::texts::fill` is safe and ends: its loop stays within the text, whose length stays.
 -- Assumes nothing.
-use Rattle.std.proofs.Common.{◌≡◌, ◌-◌, ◌≤◌, length, rules}
+use Rattle.std.proofs.Common.{◌≡◌, ◌-◌, ◌≤◌, length}
 use Rattle.puzzle_cases.proofs.texts.fill.Given as goal
 
 abbrev pub invariant-loop-i : goal.invariant-loop-i
