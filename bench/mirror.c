@@ -1,9 +1,9 @@
 // Solves the free square of an even side by a job of mirror boards, and prints its score, its user seconds and its board. It is for sides whose
 // table is more than a program's stack holds, from 18 on; crate mirror_cases has the others. Fails where the board isn't a still mirror board of
 // that score.
-//   rt staticlib solver_c
+//   (cd crates/solver_c && rt lib)
 //   mkdir -p target/bench
-//   gcc -std=c11 -O2 -Wall -Wextra -o target/bench/mirror bench/mirror.c target/staticlib/libsolver_c.a
+//   gcc -std=c11 -O2 -Wall -Wextra -o target/bench/mirror bench/mirror.c crates/solver_c/out/libsolver_c.a
 //   target/bench/mirror 18
 #include <stdbool.h>
 #include <stdint.h>

@@ -124,9 +124,9 @@ class Function:
                 steps = steps[1:]
                 first.append("before")
             first = first[1:] if first else []
-            # A method's step was called after its type.
-            if re.match(r"[A-Z]\w*-[a-z]", steps[0]) and norm(steps[0]) not in self.steps:
-                steps[0] = re.sub(r"^[A-Z]\w*?-", "", steps[0])
+            # A step that was spelled with a capital.
+            if norm(steps[0]) not in self.steps and norm(steps[0]).lower() in self.steps:
+                steps[0] = steps[0].lower()
             # A step that was spelled like a lemma of the repository, and was renamed with it.
             if steps[0].endswith("_lem") and norm(steps[0][:-4]) in self.steps:
                 steps[0] = steps[0][:-4]

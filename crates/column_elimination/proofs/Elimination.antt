@@ -102,7 +102,7 @@ module _ (next : ℕ → ℕ) (w b z : ℕ) (s : ℕ → ℕ) where
       let odd : (y : ℕ) → g + (2 * y + 1) * 2 ^ k ≡ g + 2 ^ k + y * 2 ^ (w + 2 - j) =
       λ y. rw (add-mul (2 * y) 1 (2 ^ k), one-mul (2 ^ k), f y) (omega arith) in
       let begin : greatest (λ x. passed (suc j) (g + x * 2 ^ (w + 2 - suc j))) (2 ^ suc j) ≡ greatest (λ x. passed (suc j) (g + x * 2 ^ k)) (2 * 2 ^ j) =
-      simp (e, pow-succ' 2 j) in
+      ap (λ (q : ℕ). greatest (λ x. passed (suc j) (g + x * 2 ^ q)) (2 ^ suc j)) e ∙ ap (greatest (λ x. passed (suc j) (g + x * 2 ^ k))) (pow-succ' 2 j) in
       let es = greatest_same (λ y. passed (suc j) (g + 2 * y * 2 ^ k)) (λ y. keep_if (kept j g) (passed j (g + y * 2 ^ (w + 2 - j)))) (2 ^ j)
       (λ y _. ap (passed (suc j)) (even y) ∙ passed_more j g y l) in
       let os = greatest_same (λ y. passed (suc j) (g + (2 * y + 1) * 2 ^ k)) (λ y. keep_if (kept j (g + 2 ^ k)) (passed j (g + 2 ^ k + y * 2 ^ (w + 2 - j)))) (2 ^ j)

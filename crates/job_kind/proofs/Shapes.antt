@@ -20,7 +20,7 @@ use Rattle.elimination.specs.Rounds.{InRound, Rounds}
 use Rattle.elimination.proofs.FillThenChoose as Wholes
 use Rattle.elimination.proofs.TwoLayers as Twos
 use Rattle.elimination.proofs.Shape.{units_split, whole_lawful, two_lawful}
-use Rattle.elimination.proofs.Rounds.{chooses, fills_until, row_at, chosen_round, whole_rounds, two_rounds}
+use Rattle.elimination.proofs.Rounds.{fills_until, row_at, chosen_round, whole_rounds, two_rounds}
 use Rattle.job_kind.specs.Kinds.{kind_number, halves_of, refills, kind_digits, board_length, none_length, plan_of, chosen_in, shape_of, round_work, course_of, RowsAreChoosingUnits}
 use Rattle.job_kind.specs.declared.Kind.{Kind}
 

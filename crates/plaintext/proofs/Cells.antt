@@ -12,7 +12,7 @@ use Rattle.board.specs.Search.{first_not}
 use Rattle.writer.specs.Letters.{big_o, letter_cell}
 use Rattle.writer.specs.Writing.{board_rows}
 use Rattle.plaintext.specs.Lines.{Line}
-use Rattle.plaintext.specs.Reading.{Judged, comment, is_comment, without_cR, letter_at, judge_row, judge, judge_lines, rows_of, filled, cells_of}
+use Rattle.plaintext.specs.Reading.{Judged, comment, is_comment, without_cr, letter_at, judge_row, judge, judge_lines, rows_of, filled, cells_of}
 
 abbrev pub AllCells : List ℕ → Type 0
 AllCells [] = Unit {0}
@@ -69,11 +69,11 @@ letters_all (b ∷ l) = (small (eqb b big_o), letters_all l)
 pub text_all : (at : ℕ) (ls : List Line) → AllRows (rows_of (judge_lines at ls))
 unfolding judge_lines rows_of judge
 text_all at [] = tt
-text_all at (l ∷ ls) = more (is_comment l.bytes) (first_not (letter_at (without_cR l)) (length (without_cR l))) (judge_lines (at + length l.bytes + 1) ls) (text_all (at + length l.bytes + 1) ls)
+text_all at (l ∷ ls) = more (is_comment l.bytes) (first_not (letter_at (without_cr l)) (length (without_cr l))) (judge_lines (at + length l.bytes + 1) ls) (text_all (at + length l.bytes + 1) ls)
   where
-    more : (t : Bool) (o : Option ℕ) (js : List Judged) → AllRows (rows_of js) → AllRows (rows_of (cond t comment (judge_row at (without_cR l) o) ∷ js))
+    more : (t : Bool) (o : Option ℕ) (js : List Judged) → AllRows (rows_of js) → AllRows (rows_of (cond t comment (judge_row at (without_cr l) o) ∷ js))
     more true o js a = a
-    more false none js a = (letters_all (without_cR l), a)
+    more false none js a = (letters_all (without_cr l), a)
     more false (some p) js a = a
 
 pub cells_all : (w : ℕ) (rs : List (List ℕ)) → AllRows rs → AllCells (cells_of w rs)

@@ -24,14 +24,14 @@ joined_more true b ls e = rw (e, eqb-true b LF e)
 joined_more false b [] e = rw e
 joined_more false b (l ∷ ls) e = rw e
 
-no_LF : (b : ℕ) (l : List ℕ) → eqb b LF ≡ false → (Memᴰ LF l → ⊥) → Memᴰ LF (b ∷ l) → ⊥
-no_LF b l e h m = ⊎_elim (λ (q : LF ≡ b). eqb-false b LF e (sym q)) h (Memᴰ.cases_cons m)
+no_lf : (b : ℕ) (l : List ℕ) → eqb b LF ≡ false → (Memᴰ LF l → ⊥) → Memᴰ LF (b ∷ l) → ⊥
+no_lf b l e h m = ⊎_elim (λ (q : LF ≡ b). eqb-false b LF e (sym q)) h (Memᴰ.cases_cons m)
 
 well_cut : (t : Bool) (b : ℕ) (ls : List Line) → eqb b LF ≡ t → WellCut ls → WellCut (added b ls)
 well_cut true b ls e c = rw e (Memᴰ.not-nil, inl refl, c)
-well_cut false b [] e c = rw e (no_LF b [] e Memᴰ.not-nil, inr (zero-lt-suc 0, refl), tt)
+well_cut false b [] e c = rw e (no_lf b [] e Memᴰ.not-nil, inr (zero-lt-suc 0, refl), tt)
 well_cut false b (l ∷ ls) e c =
-    rw e (no_LF b l.bytes e c.0, ⊎_elim (λ (q : l.ended ≡ true). inl q) (λ (q : (0 < length l.bytes) × (ls ≡ [])). inr (zero-lt-suc (length l.bytes), q.1)) c.1, c.2)
+    rw e (no_lf b l.bytes e c.0, ⊎_elim (λ (q : l.ended ≡ true). inl q) (λ (q : (0 < length l.bytes) × (ls ≡ [])). inr (zero-lt-suc (length l.bytes), q.1)) c.1, c.2)
 
 pub cut_into_lines : CutIntoLines
 unfolding lines_of joined

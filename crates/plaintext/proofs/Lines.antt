@@ -15,8 +15,8 @@ use Rattle.board.specs.Search.{first_not}
 use Rattle.writer.specs.Letters.{LF, letter_cell}
 use Rattle.plaintext.specs.declared.line.Kind.TheVariants.{Comment, Row, Bad}
 use Rattle.plaintext.specs.Lines.{Line, in_front, lines_of}
-use Rattle.plaintext.specs.Reading.{Judged, comment, row, bad, is_comment, ends_in_cR, without_cR, letter_at, judge_row, judge, judge_lines, judged}
-use Rattle.plaintext.specs.Scanning.{first_not_or, no_lFAt, line_between, EndsAt, line_kind}
+use Rattle.plaintext.specs.Reading.{Judged, comment, row, bad, is_comment, ends_in_cr, without_cr, letter_at, judge_row, judge, judge_lines, judged}
+use Rattle.plaintext.specs.Scanning.{first_not_or, no_lf_at, line_between, EndsAt, line_kind}
 use Rattle.plaintext.proofs.Stops.{Stopped, stopped, all_passed, one_fails}
 
 -- where `cc` joins two constructors it gives this equation
@@ -29,18 +29,18 @@ pub empty_at : (l : List ℕ) (k : ℕ) → length l ≡ 0 → get_or l k 0 ≡ 
 empty_at l k h = get_or-eq_default l 0 (let z : length l ≤ k = omega arith in z)
 
 module _ (l : List ℕ) (ended : Bool) where
-  pub row_open : ended ≡ false → without_cR (record { bytes = l; ended = ended }) ≡ l
+  pub row_open : ended ≡ false → without_cr (record { bytes = l; ended = ended }) ≡ l
   row_open e = rw e
 
-  pub row_whole : ended ≡ true → ends_in_cR l ≡ false → without_cR (record { bytes = l; ended = ended }) ≡ l
+  pub row_whole : ended ≡ true → ends_in_cr l ≡ false → without_cr (record { bytes = l; ended = ended }) ≡ l
   row_whole e q = rw (e, q)
 
-  pub row_cut : ended ≡ true → ends_in_cR l ≡ true → length (without_cR (record { bytes = l; ended = ended })) ≡ length l - 1
+  pub row_cut : ended ≡ true → ends_in_cr l ≡ true → length (without_cr (record { bytes = l; ended = ended })) ≡ length l - 1
   row_cut e q = rw (e, q) (length-take-le (length l - 1) l (omega arith))
 
 -- they are the first bytes of the line
-pub row_first : (l : Line) → (take (length (without_cR l)) l.bytes ≡ without_cR l) × (length (without_cR l) ≤ length l.bytes)
-row_first l = cases (l.ended && ends_in_cR l.bytes)
+pub row_first : (l : Line) → (take (length (without_cr l)) l.bytes ≡ without_cr l) × (length (without_cr l) ≤ length l.bytes)
+row_first l = cases (l.ended && ends_in_cr l.bytes)
   where
     cases : (t : Bool) → let r = cond t (take (length l.bytes - 1) l.bytes) l.bytes in (take (length r) l.bytes ≡ r) × (length r ≤ length l.bytes)
     cases true =
@@ -71,10 +71,10 @@ ltb_same a b c d f g = go (ltb a b) refl
     go false e = sym (le-ltb c d (let n : c < d → ⊥ = λ h. let k = g h in let l = ltb-false a b e in omega arith in omega arith))
 
 -- the line at a place goes on to its first LF
-pub line_ends : (text : List ℕ) (from n : ℕ) → from < length text → n ≡ first_not_or (no_lFAt (drop from text)) (length (drop from text)) → EndsAt text from (from + n)
+pub line_ends : (text : List ℕ) (from n : ℕ) → from < length text → n ≡ first_not_or (no_lf_at (drop from text)) (length (drop from text)) → EndsAt text from (from + n)
 line_ends text from n inside e =
     let t = drop from text in
-    let s : Stopped (no_lFAt t) (length t) n = rw e (stopped (no_lFAt t) (length t)) in
+    let s : Stopped (no_lf_at t) (length t) n = rw e (stopped (no_lf_at t) (length t)) in
     let m : length t ≡ length text - from = length-drop from text in
     let first = cut t n (omega arith) s.within (λ k l. not-true _ (s.pass k l)) (λ l. not-false _ (s.fails l)) in
     let d : drop (suc n) t ≡ drop (from + n + 1) text = drop-drop (suc n) from text ∙ ap (λ (k : ℕ). drop k text) (let q : from + suc n ≡ from + n + 1 = omega arith in q) in
@@ -108,23 +108,23 @@ module _ (at : ℕ) (l : Line) where
   comment_kind e = rw e
 
   -- of a line that is no comment, with n bytes in its row, so many of them letters
-  module _ (plain : is_comment l.bytes ≡ false) (n letters : ℕ) (long : n ≡ length (without_cR l))
+  module _ (plain : is_comment l.bytes ≡ false) (n letters : ℕ) (long : n ≡ length (without_cr l))
       (count : letters ≡ first_not_or (letter_at (take n l.bytes)) (length (take n l.bytes))) where
-    counted : letters ≡ first_not_or (letter_at (without_cR l)) (length (without_cR l))
-    counted = let e : take n l.bytes ≡ without_cR l = rw long (row_first l).0 in rw e at count
+    counted : letters ≡ first_not_or (letter_at (without_cr l)) (length (without_cr l))
+    counted = let e : take n l.bytes ≡ without_cr l = rw long (row_first l).0 in rw e at count
 
     pub bad_kind : letters < n → Bad (at + letters) ≡ line_kind (judge at l)
     unfolding judge
     bad_kind h =
-        let f = letter_at (without_cR l) in
-        let e = one_fails f (length (without_cR l)) (rw (← counted, ← long) h) in
+        let f = letter_at (without_cr l) in
+        let e = one_fails f (length (without_cr l)) (rw (← counted, ← long) h) in
         rw (plain, e, ← counted)
 
     pub row_kind : n ≤ letters → Row n ≡ line_kind (judge at l)
     unfolding judge
     row_kind h =
-        let e = all_passed (letter_at (without_cR l)) (length (without_cR l)) (rw (← counted, ← long) h) in
-        rw (plain, e, length-map (without_cR l) letter_cell, ← long)
+        let e = all_passed (letter_at (without_cr l)) (length (without_cr l)) (rw (← counted, ← long) h) in
+        rw (plain, e, length-map (without_cr l) letter_cell, ← long)
 
 -- ---- what a kind says of the judged line
 pub kind_comment : (j : Judged) → Comment ≡ line_kind j → j ≡ comment
@@ -140,14 +140,14 @@ kind_bad (bad place) p e = cc
 -- a row of n letters is the first n bytes of the line
 pub kind_row : (at : ℕ) (l : Line) (n : ℕ) → Row n ≡ line_kind (judge at l) → (judge at l ≡ row (map letter_cell (take n l.bytes))) × (n ≤ length l.bytes)
 unfolding judge
-kind_row at l n e = go (is_comment l.bytes) (first_not (letter_at (without_cR l)) (length (without_cR l))) e
+kind_row at l n e = go (is_comment l.bytes) (first_not (letter_at (without_cr l)) (length (without_cr l))) e
   where
-    go : (t : Bool) (o : Option ℕ) → Row n ≡ line_kind (cond t comment (judge_row at (without_cR l) o))
-        → (cond t comment (judge_row at (without_cR l) o) ≡ row (map letter_cell (take n l.bytes))) × (n ≤ length l.bytes)
+    go : (t : Bool) (o : Option ℕ) → Row n ≡ line_kind (cond t comment (judge_row at (without_cr l) o))
+        → (cond t comment (judge_row at (without_cr l) o) ≡ row (map letter_cell (take n l.bytes))) × (n ≤ length l.bytes)
     go true o e = let z : ◌≡◌ {A = ℕ} 0 1 = cc in absurd (zero_ne_one z)
     go false none e =
         let r = row_first l in
-        let m : n ≡ length (map letter_cell (without_cR l)) = cc in
-        let k : n ≡ length (without_cR l) = m ∙ length-map (without_cR l) letter_cell in
+        let m : n ≡ length (map letter_cell (without_cr l)) = cc in
+        let k : n ≡ length (without_cr l) = m ∙ length-map (without_cr l) letter_cell in
         (rw (k, r.0), rw k r.1)
     go false (some p) e = let z : ◌≡◌ {A = ℕ} 0 1 = cc in absurd (zero_ne_one z)

@@ -21,7 +21,7 @@ use Rattle.board.proofs.Answers.{then_gives}
 use Rattle.board.proofs.Checks.{board_passes}
 use Rattle.writer.specs.Letters.{LF, is_letter}
 use Rattle.plaintext.specs.Lines.{Line, lines_of}
-use Rattle.plaintext.specs.Reading.{Judged, comment, row, bad, is_comment, without_cR, letter_at, judge_row, judge, judge_lines, judged, first_bad, rows_of, width_of, cells_of, size_rule, read_rule, board_over, ReadsText}
+use Rattle.plaintext.specs.Reading.{Judged, comment, row, bad, is_comment, without_cr, letter_at, judge_row, judge, judge_lines, judged, first_bad, rows_of, width_of, cells_of, size_rule, read_rule, board_over, ReadsText}
 use Rattle.plaintext.specs.declared.Read.TheVariants.{Board}
 use Rattle.plaintext.specs.Theorems.{joined, WellCut, ReadsABoard, BadByte}
 use Rattle.plaintext.proofs.RowCells.{cells_long}
@@ -88,7 +88,7 @@ reads_a_board bytes at cells cells' w h c =
 record NotAllowed (text : List ℕ) (k : ℕ) : Type 0 where
   inside : k < length text
   no_letter : is_letter (get_or text k 0) ≡ false
-  no_LF : get_or text k 0 ≡ LF → ⊥
+  no_lf : get_or text k 0 ≡ LF → ⊥
 
 member : (l : List ℕ) (k : ℕ) → k < length l → Memᴰ (get_or l k 0) l
 member [] k h = absurd (not-suc-le-zero h)
@@ -98,15 +98,15 @@ member (x ∷ l) (suc k) h = Memᴰ.tail (member l k (le_of_suc-le-suc h))
 -- a line's bad byte, with any bytes after the line
 bad_here : (at p : ℕ) (l : Line) (rest : List ℕ) → (Memᴰ LF l.bytes → ⊥) → judge at l ≡ bad p → (k : ℕ) × (p ≡ at + k) × NotAllowed (l.bytes ++ rest) k
 unfolding judge
-bad_here at p l rest clean e = go (is_comment l.bytes) (first_not (letter_at (without_cR l)) (length (without_cR l))) (searched (letter_at (without_cR l)) (length (without_cR l))) e
+bad_here at p l rest clean e = go (is_comment l.bytes) (first_not (letter_at (without_cr l)) (length (without_cr l))) (searched (letter_at (without_cr l)) (length (without_cr l))) e
   where
-    go : (t : Bool) (o : Option ℕ) → Searched (letter_at (without_cR l)) (length (without_cR l)) o → cond t comment (judge_row at (without_cR l) o) ≡ bad p
+    go : (t : Bool) (o : Option ℕ) → Searched (letter_at (without_cr l)) (length (without_cr l)) o → cond t comment (judge_row at (without_cr l) o) ≡ bad p
         → (k : ℕ) × (p ≡ at + k) × NotAllowed (l.bytes ++ rest) k
     go true o s e = let z : ◌≡◌ {A = ℕ} 0 1 = cc in absurd (zero_ne_one z)
     go false none s e = let z : ◌≡◌ {A = ℕ} 0 1 = cc in absurd (zero_ne_one z)
     go false (some k) (fails_at _ h f _) e =
         let r = row_first l in
-        let same : get_or (without_cR l) k 0 ≡ get_or l.bytes k 0 = rw r.0 at (get_or-take (length (without_cR l)) l.bytes k 0 h) in
+        let same : get_or (without_cr l) k 0 ≡ get_or l.bytes k 0 = rw r.0 at (get_or-take (length (without_cr l)) l.bytes k 0 h) in
         let inside : k < length l.bytes = omega arith in
         let first : get_or (l.bytes ++ rest) k 0 ≡ get_or l.bytes k 0 = get_or-append l.bytes rest 0 k inside in
         let q : p ≡ at + k = cc in (
@@ -115,7 +115,7 @@ bad_here at p l rest clean e = go (is_comment l.bytes) (first_not (letter_at (wi
           record {
             inside = rw (length-append l.bytes rest) (omega arith);
             no_letter = rw (first, ← same) f;
-            no_LF = λ z. clean (rw (sym first ∙ z) at (member l.bytes k inside));
+            no_lf = λ z. clean (rw (sym first ∙ z) at (member l.bytes k inside));
           },
         )
 
@@ -135,7 +135,7 @@ bad_later at p l ls c e i =
           record {
             inside = rw (length-append l.bytes (LF ∷ joined ls)) (omega (arith, n.inside));
             no_letter = rw on n.no_letter;
-            no_LF = λ z. n.no_LF (sym on ∙ z);
+            no_lf = λ z. n.no_lf (sym on ∙ z);
           },
     ))
     (λ (last : (0 < length l.bytes) × (ls ≡ [])).
@@ -176,4 +176,4 @@ bad_byte bytes at cells cells' p c =
     let k = i.0 in
     let n : NotAllowed (drop at bytes) k = rw cut.0 at i.2 in
     let here : get_or (drop at bytes) k 0 ≡ get_or bytes p 0 = get_or-drop at bytes k 0 ∙ ap (λ (x : ℕ). get_or bytes x 0) (sym i.1) in
-    (omega (arith, i.1), omega (arith, i.1, n.inside, length-drop at bytes), rw (← here) n.no_letter, λ z. n.no_LF (here ∙ z))
+    (omega (arith, i.1), omega (arith, i.1, n.inside, length-drop at bytes), rw (← here) n.no_letter, λ z. n.no_lf (here ∙ z))

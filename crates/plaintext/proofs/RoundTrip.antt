@@ -4,7 +4,7 @@ use mathlib.Core.Path.{◌≡◌, refl, sym, ap, ap₂, ◌∙◌}
 use mathlib.Core.Bool.{Bool, true, false, cond}
 use mathlib.Core.Option.{none}
 use mathlib.Core.List.{List, [], ◌∷◌, ◌++◌, map, flat_map, append-nil}
-use Prim.Native.Nat.{ℕ, zero, suc, ◌*◌, ◌-◌, ◌<◌, ◌≤◌}
+use Prim.Native.Nat.{ℕ, zero, suc, ◌+◌, ◌*◌, ◌-◌, ◌<◌, ◌≤◌}
 use native.Mathlib.Nat.{not-suc-le-zero, le_of_suc-le-suc, zero-lt-suc, mul-zero}
 use native.Mathlib.Omega.{arith}
 use borrow.Author.Tests.{le-leb}
@@ -23,7 +23,7 @@ use Rattle.writer.specs.Writing.{board_rows, row_text, board_text, text_length, 
 use Rattle.writer.proofs.BoardRows.{rest_long, board_text_long}
 use Rattle.plaintext.specs.declared.Read as I
 use Rattle.plaintext.specs.Lines.{Line, lines_of}
-use Rattle.plaintext.specs.Reading.{row, is_comment, letter_at, judge, judge_lines, judged, first_bad, rows_of, width_of, filled, cells_of, size_rule, read_rule, board_over, read_says}
+use Rattle.plaintext.specs.Reading.{Judged, row, is_comment, letter_at, judge, judge_lines, judged, first_bad, rows_of, width_of, filled, cells_of, size_rule, read_rule, board_over, read_says}
 use Rattle.plaintext.specs.Theorems.{AcceptedAsItIs, RoundTrip}
 use Rattle.plaintext.proofs.Cells.{AllCells, AllRows, all_of, board_all}
 use Rattle.plaintext.proofs.Cutting.{added}
@@ -48,10 +48,10 @@ no_bang : (r : List ℕ) → is_comment (map letter_of r) ≡ false
 no_bang [] = refl
 no_bang (c ∷ cs) = letter_cases (λ (b : ℕ). eqb b bang ≡ false) refl refl (eqb c 0)
 
-no_CR : (r : List ℕ) (k : ℕ) → eqb (get_or (map letter_of r) k 0) CR ≡ false
-no_CR [] k = refl
-no_CR (c ∷ cs) zero = letter_cases (λ (b : ℕ). eqb b CR ≡ false) refl refl (eqb c 0)
-no_CR (c ∷ cs) (suc k) = no_CR cs k
+no_cr : (r : List ℕ) (k : ℕ) → eqb (get_or (map letter_of r) k 0) CR ≡ false
+no_cr [] k = refl
+no_cr (c ∷ cs) zero = letter_cases (λ (b : ℕ). eqb b CR ≡ false) refl refl (eqb c 0)
+no_cr (c ∷ cs) (suc k) = no_cr cs k
 
 all_letters : (r : List ℕ) (k : ℕ) → k < length (map letter_of r) → letter_at (map letter_of r) k ≡ true
 all_letters [] k h = absurd (not-suc-le-zero h)
@@ -71,13 +71,15 @@ judge_row_lem : (at : ℕ) (r : List ℕ) → AllCells r → judge at (line_of r
 unfolding judge
 judge_row_lem at r a =
     let l = map letter_of r in
-    rw (no_bang r, no_CR r (length l - 1), none_of (letter_at l) (length l) (all_letters r), cells_back r a)
+    rw (no_bang r, no_cr r (length l - 1), none_of (letter_at l) (length l) (all_letters r), cells_back r a)
 
 -- the text of rows is judged as those rows
 judge_rows : (at : ℕ) (rs : List (List ℕ)) → AllRows rs → judge_lines at (lines_of (flat_map row_text rs)) ≡ map row rs
 unfolding judge_lines lines_of flat_map
 judge_rows at [] a = refl
-judge_rows at (r ∷ rs) a = rw (row_line r (flat_map row_text rs), judge_row_lem at r a.0, judge_rows _ rs a.1)
+judge_rows at (r ∷ rs) a =
+    rw (row_line r (flat_map row_text rs), judge_row_lem at r a.0)
+    (ap {B = List Judged} (λ js. row r ∷ js) (judge_rows (at + length (line_of r).bytes + 1) rs a.1))
 
 -- ---- judged lines that are all rows
 none_bad : (rs : List (List ℕ)) → first_bad (map row rs) ≡ none

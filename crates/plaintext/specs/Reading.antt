@@ -24,12 +24,12 @@ abbrev pub is_comment : List ℕ → Bool
 is_comment bytes = eqb (get_or bytes 0 0) bang
 
 -- the last byte is CR
-abbrev pub ends_in_cR : List ℕ → Bool
-ends_in_cR bytes = eqb (get_or bytes (length bytes - 1) 0) CR
+abbrev pub ends_in_cr : List ℕ → Bool
+ends_in_cr bytes = eqb (get_or bytes (length bytes - 1) 0) CR
 
 -- "one CR just before LF is dropped"
-abbrev pub without_cR : Line → List ℕ
-without_cR l = cond (l.ended && ends_in_cR l.bytes) (take (length l.bytes - 1) l.bytes) l.bytes
+abbrev pub without_cr : Line → List ℕ
+without_cr l = cond (l.ended && ends_in_cr l.bytes) (take (length l.bytes - 1) l.bytes) l.bytes
 
 -- the byte of a row at a place is a letter
 abbrev pub letter_at : List ℕ → ℕ → Bool
@@ -43,7 +43,7 @@ judge_row at bytes (some place) = bad (at + place)
 
 -- a line that starts at a place
 unfoldable pub judge : ℕ → Line → Judged
-judge at l = cond (is_comment l.bytes) comment (judge_row at (without_cR l) (first_not (letter_at (without_cR l)) (length (without_cR l))))
+judge at l = cond (is_comment l.bytes) comment (judge_row at (without_cr l) (first_not (letter_at (without_cr l)) (length (without_cr l))))
 
 -- lines, the first of which starts at a place: the next starts after its bytes and its LF
 unfoldable pub judge_lines : ℕ → List Line → List Judged

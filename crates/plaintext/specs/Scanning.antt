@@ -17,8 +17,8 @@ abbrev pub first_not_or : (ℕ → Bool) → ℕ → ℕ
 first_not_or f n = Option.get_or (first_not f n) n
 
 -- the byte at a place is no LF
-abbrev pub no_lFAt : List ℕ → ℕ → Bool
-no_lFAt bytes place = not (eqb (get_or bytes place 0) LF)
+abbrev pub no_lf_at : List ℕ → ℕ → Bool
+no_lf_at bytes place = not (eqb (get_or bytes place 0) LF)
 
 -- the line of a text from a place to another
 abbrev pub line_between : List ℕ → ℕ → ℕ → Line

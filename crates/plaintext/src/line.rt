@@ -1,8 +1,8 @@
 // One line of a text: where it ends, and what it is.
 ghost use Rattle.std.specs.Prelude.{◌≡◌, ◌<◌, ◌≤◌, length};
 ghost use Rattle.writer.specs.Letters.{is_letter};
-ghost use Rattle.plaintext.specs.Reading.{is_comment, without_cR, letter_at, judge};
-ghost use Rattle.plaintext.specs.Scanning.{first_not_or, no_lFAt, line_between, EndsAt, line_kind};
+ghost use Rattle.plaintext.specs.Reading.{is_comment, without_cr, letter_at, judge};
+ghost use Rattle.plaintext.specs.Scanning.{first_not_or, no_lf_at, line_between, EndsAt, line_kind};
 
 // A comment; a row of so many letters; or a byte that isn't allowed, at a place of the text.
 #[derive(Clone, Copy)]
@@ -39,7 +39,7 @@ pub fn classify(text: &[u8], from: usize, end: usize) -> Kind
 
 // The length of the first line, without its LF.
 fn line_length(text: &[u8]) -> usize
-    ensures { result ≡ first_not_or (no_lFAt text.now) (length text.now) }
+    ensures { result ≡ first_not_or (no_lf_at text.now) (length text.now) }
 {
     let mut i = 0;
     while i < text.len() {
@@ -62,7 +62,7 @@ fn is_comment(line: &[u8]) -> bool
 
 // The length of a line's row: one CR just before LF is dropped.
 fn row_length(line: &[u8], ended: bool) -> usize
-    ensures { result ≡ length (without_cR (record { bytes = line.now; ended = ended })) }
+    ensures { result ≡ length (without_cr (record { bytes = line.now; ended = ended })) }
 {
     let n = line.len();
     if !ended {

@@ -6,7 +6,7 @@ ghost use Rattle.plaintext.specs.Reading.{ReadsText};
 
 use plaintext::Read;
 
-#[derive(Drop)]
+#[derive(Clone, Copy)]
 pub struct Reader<'a> {
     pub text: &'a [u8],
     pub at: usize,

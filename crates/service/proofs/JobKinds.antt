@@ -15,7 +15,6 @@ use Rattle.elimination.specs.Machine.{advance, Lasts}
 use Rattle.elimination.specs.Job.{Mark, finished, infeasible, end_mark, mark_number, Setup, opened, machine}
 use Rattle.elimination.specs.Job as Elimination
 use Rattle.elimination.specs.Completion.{Completion, board_end, none_end}
-use Rattle.elimination.specs.Completion as Completion
 use Rattle.elimination.specs.Progress.{Carried, rows_held}
 use Rattle.elimination.specs.Shape.{rows_chosen}
 use Rattle.elimination.proofs.Endings.{elimination_solves}
@@ -31,7 +30,7 @@ use Rattle.service.specs.Service as Service
 use Rattle.service.specs.Laws.{Follows, Course, Comes, to_board, to_none, Lawful}
 use Rattle.service.specs.JobKinds.{JobKind, rows_in, aim_of, service_of, KindLaws, Fresh, KindMeetsDemand}
 use Rattle.service.proofs.Numbers.{continues}
-use Rattle.service.proofs.Units.{mark_in, view, Here, follows}
+use Rattle.service.proofs.Units.{mark_in, view, follows}
 use Rattle.service.proofs.Demand.{meets_demand}
 
 -- ---- stages

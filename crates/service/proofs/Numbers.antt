@@ -36,6 +36,6 @@ continues J S Of N = record {
       (fits_with J S Of N j O f (after_row S.rows r c v (here j))
       ((goes_on J S Of N j O f m).after_row_lem r source (planned J S Of N j O f p) c v (rw N.codes l) (N.earns (J.height - suc r) c (live_of j.stage))));
   after_none_lem = λ j O f m source p.
-      fits_with J S Of N j O f (after_none (here j)) ((goes_on J S Of N j O f m).after_none source (planned J S Of N j O f p));
+      fits_with J S Of N j O f (after_none (here j)) ((goes_on J S Of N j O f m).after_none_lem source (planned J S Of N j O f p));
   same = N.same;
 }

@@ -76,7 +76,7 @@ module _ (J : Setup ℕ (List ℕ)) (Of : Job → Type 0) (C : Continues J Of) w
       moved s H (after_row J.height r c n (here s.job)) (C.after_row_lem s.job H.of H.taken m r source p c l) s.table (J.write r c s.board)
       (rw (mark_more (ltb (suc r) J.height)) (sym e))
   row_law s H m zero source p nothing l e =
-      moved s H (after_none (here s.job)) (C.after_none s.job H.of H.taken m source p) s.table s.board (sym e)
+      moved s H (after_none (here s.job)) (C.after_none_lem s.job H.of H.taken m source p) s.table s.board (sym e)
   row_law s H m (suc r) source p nothing l e = (e, rw m)
 
   task_law : (s : State (List ℕ)) → Here s → mark_of s.job.stage ≡ 0 → (o : Task) → J.plan s.job.units ≡ o

@@ -1,6 +1,5 @@
 -- `board::check_board` meets its contract: the size's check decides, or else the cells'.
 -- Assumes nothing.
-use borrow.Author.Rules.{rules}
 use Rattle.board.specs.Checks.{board_check}
 use Rattle.board.proofs.Answers.{turned_away_lem, passed_on}
 use Rattle.board.proofs.check_board.Goals as goal

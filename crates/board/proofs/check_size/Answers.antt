@@ -1,8 +1,7 @@
 -- `board::check_size` meets its contract: the width's tests decide, or else the height's check.
 -- Assumes nothing.
 use mathlib.Core.Path.{sym, ◌∙◌}
-use borrow.Author.Rules.{rules}
-use borrow.Author.Tests.{le-leb, lt-leb, not-true, not-false}
+use borrow.Author.Tests.{le-leb, lt-leb}
 use Rattle.board.specs.Checks.{size_check}
 use Rattle.board.proofs.check_size.Goals as goal
 

@@ -1,7 +1,6 @@
 -- `board::check_table` meets its contract: a shift by 2 w leaves the layers that the table has room for, and from width 32 on none has.
 -- Assumes nothing.
 use native.Mathlib.Omega.{arith}
-use borrow.Author.Rules.{rules}
 use borrow.Author.Tests.{le-leb, lt-leb}
 use Prim.Native.Nat.{◌<◌, ◌^◌}
 use lib.ListN.{length}

@@ -1,7 +1,6 @@
 -- `board::check_width` meets its contract: the limit's test decides.
 -- Assumes nothing.
 use mathlib.Core.Path.{sym, ◌∙◌}
-use borrow.Author.Rules.{rules}
 use Rattle.board.proofs.check_width.Goals as goal
 
 pub returns-then-is_among : goal.returns-then-is_among

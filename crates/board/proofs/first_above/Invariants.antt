@@ -1,15 +1,11 @@
 -- `board::first_above` meets its contract. The loop's invariant: no byte passed is above the limit. The measure: the bytes left.
 -- Assumes nothing.
-use mathlib.Core.Path.{◌≡◌, sym}
+use mathlib.Core.Path.{◌≡◌}
 use mathlib.Core.Option.{none}
 use Prim.Native.Nat.{◌-◌, ◌≤◌}
-use native.Mathlib.Omega.{arith}
-use borrow.Author.Rules.{rules}
-use borrow.Author.Tests.{le-leb, lt-leb}
 use lib.ListN.{length}
 use Rattle.board.specs.Search.{first_not}
 use Rattle.board.specs.Checks.{at_most}
-use Rattle.board.proofs.Search.{none_yet, none_more, some_at}
 use Rattle.board.proofs.first_above.Given as goal
 
 abbrev pub invariant-loop-i : goal.invariant-loop-i

@@ -1,7 +1,6 @@
 -- `board::table_size` meets its contract: 4^w is 2 to the 2 w, and h times it fits.
 -- Assumes nothing.
 use mathlib.Core.Path.{◌∙◌, sym}
-use borrow.Author.Rules.{rules}
 use borrow.Author.Tests.{le-leb, lt-leb}
 use Rattle.board.specs.Checks.{table_size_within}
 use Rattle.board.proofs.Powers.{table_shift, table_within}

@@ -1,6 +1,5 @@
 -- `board::width_fits` meets its contract, test by test.
 -- Assumes nothing.
-use borrow.Author.Tests.{not-true, not-false}
 use Rattle.board.proofs.Widths.{width_odd, width_even}
 use Rattle.board.proofs.width_fits.Goals as goal
 

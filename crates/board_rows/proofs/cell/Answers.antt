@@ -1,6 +1,5 @@
 -- `board_rows::cell` meets its contract: the digits from the left, then their reflection.
 -- Assumes nothing.
-use borrow.Author.Rules.{rules}
 use borrow.Author.Tests.{lt-ltb, le-ltb}
 use Rattle.board_rows.proofs.cell.Goals as goal
 

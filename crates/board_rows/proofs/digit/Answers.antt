@@ -2,7 +2,6 @@
 -- Assumes nothing.
 use Prim.Native.Nat.{◌<◌, ◌^◌}
 use native.Mathlib.Omega.{arith}
-use borrow.Author.Rules.{rules}
 use Rattle.board_rows.proofs.Writing.{digit_past}
 use Rattle.board_rows.proofs.digit.Goals as goal
 

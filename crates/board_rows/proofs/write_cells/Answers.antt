@@ -1,10 +1,8 @@
 -- `board_rows::write_cells` meets its contract. The loop's invariant: the cells passed are written. The measure: the cells left.
 -- Assumes nothing.
 use mathlib.Core.Path.{◌≡◌, refl, sym}
-use Prim.Native.Nat.{◌-◌, ◌≤◌}
 use native.Mathlib.Omega.{arith}
-use lib.ListN.{length, length-set}
-use Rattle.board_rows.specs.Rows.{row_cell, written}
+use lib.ListN.{length-set}
 use Rattle.board_rows.proofs.Writing.{written_none, written_more}
 use borrow.Author.Rules.{rules}
 use Rattle.board_rows.proofs.write_cells.Goals as goal

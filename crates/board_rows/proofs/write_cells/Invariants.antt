@@ -1,12 +1,9 @@
 -- `board_rows::write_cells` meets its contract. The loop's invariant: the cells passed are written. The measure: the cells left.
 -- Assumes nothing.
-use mathlib.Core.Path.{◌≡◌, refl, sym}
+use mathlib.Core.Path.{◌≡◌}
 use Prim.Native.Nat.{◌-◌, ◌≤◌}
-use native.Mathlib.Omega.{arith}
-use lib.ListN.{length, length-set}
+use lib.ListN.{length}
 use Rattle.board_rows.specs.Rows.{row_cell, written}
-use Rattle.board_rows.proofs.Writing.{written_none, written_more}
-use borrow.Author.Rules.{rules}
 use Rattle.board_rows.proofs.write_cells.Given as goal
 
 abbrev pub invariant-loop-k : goal.invariant-loop-k

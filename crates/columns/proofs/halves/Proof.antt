@@ -12,96 +12,75 @@ use borrow.Author.Rules.{rules}
 use Rattle.columns.proofs.halves.Statement.{statement}
 use Rattle.columns.proofs.halves.Tie as tie
 
-abbrev invariant-loop : tie.invariant-loop
-invariant-loop src masks w j dst₀ n to p₀ dst p = (p ≤ to) × Wrote 0 (p * (32 * n)) (crossed src masks (8 * n)) dst₀ dst
+abbrev invariant-loop-p : tie.invariant-loop-p
+invariant-loop-p src masks w j dst₀ n to p₀ dst p = (p ≤ to) × Wrote 0 (p * (32 * n)) (crossed src masks (8 * n)) dst₀ dst
 
-abbrev decreases-loop : tie.decreases-loop
-decreases-loop src masks w j dst₀ n to p₀ dst p = to - p
+abbrev decreases-loop-p : tie.decreases-loop-p
+decreases-loop-p src masks w j dst₀ n to p₀ dst p = to - p
 
-lows : (c : tie.In-loop invariant-loop decreases-loop) → let n = c.before.before.before.two_to.result in let p = c.before.loop.p in (p - p % 2) * (32 * n) + 64 * n ≤ 32768
-lows c = low_room _ _ _ _ c.before.before.before.before.requires.0 c.before.before.before.before.requires.1 c.before.before.before.two_to.ensures c.before.before.two-to2.ensures _ c.loop-test.true
+lows : (c : tie.In-loop-p invariant-loop-p decreases-loop-p) → let n = c.two_to-n.result in let p = c.loop-p.p in (p - p % 2) * (32 * n) + 64 * n ≤ 32768
+lows c = low_room _ _ _ _ c.requires.0 c.requires.1 c.two_to-n.ensures c.two_to-to.ensures _ c.loop-p-test.true
 
-outs : (c : tie.In-loop invariant-loop decreases-loop) → let n = c.before.before.before.two_to.result in c.before.loop.p * (32 * n) + 32 * n ≤ 32768
-outs c = out_room _ _ _ _ c.before.before.before.before.requires.0 c.before.before.before.before.requires.1 c.before.before.before.two_to.ensures c.before.before.two-to2.ensures _ c.loop-test.true
+outs : (c : tie.In-loop-p invariant-loop-p decreases-loop-p) → let n = c.two_to-n.result in c.loop-p.p * (32 * n) + 32 * n ≤ 32768
+outs c = out_room _ _ _ _ c.requires.0 c.requires.1 c.two_to-n.ensures c.two_to-to.ensures _ c.loop-p-test.true
 
-sub-two-to : tie.Need-overflow-sub-two-to invariant-loop decreases-loop
-sub-two-to c = search rules
+overflow_sub-w : tie.Need-overflow_sub-w invariant-loop-p decreases-loop-p
+overflow_sub-w c = search rules
 
-sub-two-to-2 : tie.Need-overflow-sub-two-to-2 invariant-loop decreases-loop
-sub-two-to-2 c = search rules
+overflow_sub-w-2 : tie.Need-overflow_sub-w-2 invariant-loop-p decreases-loop-p
+overflow_sub-w-2 c = search rules
 
-two-to-requires : tie.Need-two-to-requires invariant-loop decreases-loop
-two-to-requires c κs = search rules
+two_to-n-requires : tie.Need-two_to-n-requires invariant-loop-p decreases-loop-p
+two_to-n-requires c κs = search rules
 
-add-two-to : tie.Need-overflow-add-two-to invariant-loop decreases-loop
-add-two-to c = search rules
+overflow_add-j : tie.Need-overflow_add-j invariant-loop-p decreases-loop-p
+overflow_add-j c = search rules
 
-two-to-requires-2 : tie.Need-two-to-requires-2 invariant-loop decreases-loop
-two-to-requires-2 c κs = search rules
+two_to-to-requires : tie.Need-two_to-to-requires invariant-loop-p decreases-loop-p
+two_to-to-requires c κs = search rules
 
-loop-holds : tie.Need-loop-init invariant-loop decreases-loop
-loop-holds c = search rules
+loop-p-init : tie.Need-loop-p-init invariant-loop-p decreases-loop-p
+loop-p-init c = search rules
 
-sub-half : tie.Need-overflow-sub-half invariant-loop decreases-loop
-sub-half c = search rules
+overflow_sub-p : tie.Need-overflow_sub-p invariant-loop-p decreases-loop-p
+overflow_sub-p c = search rules
 
-mul-half : tie.Need-overflow-mul-half invariant-loop decreases-loop
-mul-half c = omega (arith, outs c)
+overflow_mul-n : tie.Need-overflow_mul-n invariant-loop-p decreases-loop-p
+overflow_mul-n c = omega (arith, outs c)
 
-mul-half-2 : tie.Need-overflow-mul-half-2 invariant-loop decreases-loop
-mul-half-2 c = omega (arith, lows c)
+overflow_mul-p : tie.Need-overflow_mul-p invariant-loop-p decreases-loop-p
+overflow_mul-p c = omega (arith, lows c)
 
-mul-half-3 : tie.Need-overflow-mul-half-3 invariant-loop decreases-loop
-mul-half-3 c = search rules
+overflow_mul-p-in-loop-p : tie.Need-overflow_mul-p-in-loop-p invariant-loop-p decreases-loop-p
+overflow_mul-p-in-loop-p c = search rules
 
-mul-half-4 : tie.Need-overflow-mul-half-4 invariant-loop decreases-loop
-mul-half-4 c = omega (arith, outs c.before)
+overflow_mul-n-in-loop-p : tie.Need-overflow_mul-n-in-loop-p invariant-loop-p decreases-loop-p
+overflow_mul-n-in-loop-p c = omega (arith, outs c.before)
 
-mul-half-5 : tie.Need-overflow-mul-half-5 invariant-loop decreases-loop
-mul-half-5 c = omega (arith, outs c.before)
+overflow_mul-p-in-loop-p-2 : tie.Need-overflow_mul-p-in-loop-p-2 invariant-loop-p decreases-loop-p
+overflow_mul-p-in-loop-p-2 c = omega (arith, outs c.before)
 
-half-requires : tie.Need-half-requires invariant-loop decreases-loop
-half-requires c κs = (run_some _ _ _ _ c.before.before.before.before.before.requires.0 c.before.before.before.before.before.requires.1 c.before.before.before.before.two_to.ensures c.before.before.before.two-to2.ensures, lows c.before, omega arith, outs c.before)
+half-requires : tie.Need-half-requires invariant-loop-p decreases-loop-p
+half-requires c κs = (run_some _ _ _ _ c.requires.0 c.requires.1 c.two_to-n.ensures c.two_to-to.ensures, lows c.before, omega arith, outs c.before)
 
-add-p : tie.Need-overflow-add-p invariant-loop decreases-loop
-add-p c = search rules
+overflow_step-p : tie.Need-overflow_step-p invariant-loop-p decreases-loop-p
+overflow_step-p c = search rules
 
-loop-less : tie.Need-loop-smaller invariant-loop decreases-loop
-loop-less c = search rules
+loop-p-smaller : tie.Need-loop-p-smaller invariant-loop-p decreases-loop-p
+loop-p-smaller c = search rules
 
-loop-again : tie.Need-loop-preserved invariant-loop decreases-loop
-loop-again c = (search rules, column_turn _ _ _ _ _ (run_some _ _ _ _ c.before.before.before.before.before.before.requires.0 c.before.before.before.before.before.before.requires.1 c.before.before.before.before.before.two_to.ensures c.before.before.before.before.two-to2.ensures) refl c.before.before.before.loop.invariant.1 c.half.ensures)
+loop-p-preserved : tie.Need-loop-p-preserved invariant-loop-p decreases-loop-p
+loop-p-preserved c = (search rules, column_turn _ _ _ _ _ (run_some _ _ _ _ c.requires.0 c.requires.1 c.two_to-n.ensures c.two_to-to.ensures) refl c.loop-p.invariant.1 c.half.ensures)
 
-returns : tie.Need-returns invariant-loop decreases-loop
+returns : tie.Need-returns invariant-loop-p decreases-loop-p
 returns c =
-    let g = c.before.before.before.before.args in
-    let n = c.before.before.before.two_to.result in
-    let e : c.before.loop.p ≡ c.before.before.two-to2.result = omega arith in
-    let q : 2 ^ (g.w + 2 - g.j) ≡ 8 * n = run_is g.w g.j n c.before.before.two-to2.result c.before.before.before.before.requires.0 c.before.before.before.before.requires.1 c.before.before.before.two_to.ensures c.before.before.two-to2.ensures in
-    wrote_same c.before.loop.invariant.1
-    (rw e (halves_fill g.w g.j n c.before.before.two-to2.result c.before.before.before.before.requires.0 c.before.before.before.before.requires.1 c.before.before.before.two_to.ensures c.before.before.two-to2.ensures))
+    let g = c.args in
+    let n = c.two_to-n.result in
+    let e : c.loop-p.p ≡ c.two_to-to.result = omega arith in
+    let q : 2 ^ (g.w + 2 - g.j) ≡ 8 * n = run_is g.w g.j n c.two_to-to.result c.requires.0 c.requires.1 c.two_to-n.ensures c.two_to-to.ensures in
+    wrote_same c.loop-p.invariant.1
+    (rw e (halves_fill g.w g.j n c.two_to-to.result c.requires.0 c.requires.1 c.two_to-n.ensures c.two_to-to.ensures))
     (λ y h. ap (λ (z : ℕ). crossed g.src.now g.masks.now z y) (sym q))
 
-pub halves-spec : {M : Type 1} → statement M
-halves-spec =
-    tie.close
-    (tie.spec
-    invariant-loop
-    decreases-loop
-    sub-two-to
-    sub-two-to-2
-    two-to-requires
-    add-two-to
-    two-to-requires-2
-    loop-holds
-    sub-half
-    mul-half
-    mul-half-2
-    mul-half-3
-    mul-half-4
-    mul-half-5
-    half-requires
-    add-p
-    loop-less
-    loop-again
-    returns)
+pub halves_spec : {M : Type 1} → statement M
+halves_spec = tie.close (tie.spec invariant-loop-p decreases-loop-p overflow_sub-w overflow_sub-w-2 two_to-n-requires overflow_add-j two_to-to-requires loop-p-init overflow_sub-p overflow_mul-n overflow_mul-p overflow_mul-p-in-loop-p overflow_mul-n-in-loop-p overflow_mul-p-in-loop-p-2 half-requires overflow_step-p loop-p-smaller loop-p-preserved returns)

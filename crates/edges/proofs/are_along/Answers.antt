@@ -1,8 +1,6 @@
 -- `edges::are_along` meets its contract, test by test.
 -- Assumes nothing.
 use mathlib.Core.Path.{sym, ◌∙◌}
-use borrow.Author.Rules.{rules}
-use borrow.Author.Tests.{not-true, not-false}
 use Rattle.edges.proofs.are_along.Goals as goal
 
 pub returns-then-not-is_edge : goal.returns-then-not-is_edge

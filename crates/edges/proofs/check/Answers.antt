@@ -1,23 +1,21 @@
 -- `edges::check` meets its contract. The loop's invariant: no place passed is that of the middle of an edge three. The measure: the places left.
 -- Assumes nothing.
 use mathlib.Core.Path.{◌≡◌, sym, ◌∙◌}
-use mathlib.Core.Bool.{true, not}
+use mathlib.Core.Bool.{true}
 use mathlib.Core.List.{List}
 use mathlib.Core.Option.{Option, none, some}
-use Prim.Native.Nat.{ℕ, ◌+◌, ◌-◌, ◌/◌, ◌%◌, ◌≤◌}
+use Prim.Native.Nat.{ℕ, ◌+◌, ◌/◌, ◌%◌}
 use native.Mathlib.Nat.{div-le_self, mod-le}
 use native.Mathlib.Omega.{arith}
 use borrow.Author.Rules.{rules}
 use borrow.Author.Tests.{eq-eqb, ne_eqb}
 use lib.ListN.{length}
 use Rattle.board.specs.Answers.{refuse_at}
-use Rattle.board.specs.Search.{first_not}
 use Rattle.board.proofs.Search.{none_yet, none_more, none_of, some_at}
 use Rattle.rule.specs.declared.Rule.{Rule}
-use Rattle.edges.specs.Edges.{edge_three_at, first_edge_three, born_on3, edge_check}
+use Rattle.edges.specs.Edges.{first_edge_three, born_on3, edge_check}
 use Rattle.edges.proofs.Edges.{middle_none}
 use Rattle.edges.proofs.check.Goals as goal
-use Rattle.edges.proofs.check.Invariants.{none_before}
 
 -- what the check says, by what the search finds
 finds : (rule : Rule) (w h : ℕ) (g : List ℕ) (o : Option ℕ) → born_on3 rule ≡ true → first_edge_three w h g ≡ o → refuse_at o 14 ≡ edge_check rule w h g

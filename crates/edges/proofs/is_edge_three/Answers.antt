@@ -3,9 +3,8 @@
 use mathlib.Core.Path.{◌≡◌, sym, ◌∙◌}
 use mathlib.Core.Bool.{Bool, true, false, ◌&&◌}
 use mathlib.Core.List.{List}
-use Prim.Native.Nat.{ℕ, ◌+◌, ◌-◌}
+use Prim.Native.Nat.{ℕ, ◌+◌}
 use native.Mathlib.Omega.{arith}
-use borrow.Author.Rules.{rules}
 use Rattle.edges.specs.Edges.{given_live_at, at_edge, edge_three}
 use Rattle.edges.proofs.Edges.{one_less}
 use Rattle.edges.proofs.is_edge_three.Goals as goal
@@ -17,25 +16,20 @@ module _ (w h : ℕ) (g : List ℕ) (r c : ℕ) where
   abbrev in_row : Bool
   in_row = at_edge h (r + 1) && given_live_at w h g (r + 1) c && given_live_at w h g (r + 1) (c + 2)
 
-
   abbrev in_column : Bool
   in_column = at_edge w (c + 1) && given_live_at w h g r (c + 1) && given_live_at w h g (r + 2) (c + 1)
-
 
   along_row_lem : in_row ≡ true → edge_three w h g (r + 1) (c + 1) ≡ given_live_at w h g (r + 1) (c + 1)
   unfolding edge_three
   along_row_lem p = rw (one_less c, one_more_lem c, p)
 
-
   along_column_lem : in_row ≡ false → in_column ≡ true → edge_three w h g (r + 1) (c + 1) ≡ given_live_at w h g (r + 1) (c + 1)
   unfolding edge_three
   along_column_lem p q = rw (one_less c, one_more_lem c, one_less r, one_more_lem r, p, q)
 
-
   along_neither : in_row ≡ false → in_column ≡ false → edge_three w h g (r + 1) (c + 1) ≡ false
   unfolding edge_three
   along_neither p q = rw (one_less c, one_more_lem c, one_less r, one_more_lem r, p, q)
-
 
 pub returns-then-are_along : goal.returns-then-are_along
 returns-then-are_along c = c.is_given_live.ensures ∙ sym (along_row_lem _ _ _ _ _ (sym c.are_along.ensures ∙ c.if-are_along.true))

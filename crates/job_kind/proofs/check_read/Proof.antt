@@ -2,7 +2,6 @@
 -- Assumes nothing.
 use mathlib.Core.Path.{◌≡◌, refl, sym, ◌∙◌}
 use borrow.Author.Rules.{rules}
-use borrow.Author.Tests.{not-true, not-false}
 use Rattle.board.specs.Answers.{Answer, ◌then◌}
 use Rattle.board.specs.Checks.{givens_check}
 use Rattle.board.proofs.Answers.{turned_away_lem, passed_on}

@@ -11,59 +11,44 @@ use Rattle.layers.proofs.by_columns.Statement.{statement}
 use Rattle.layers.proofs.by_columns.Tie as tie
 
 -- the entries of a layer
-size : (c : tie.After-table-size) → c.table-size.result ≡ 4 ^ c.before.before.before.before.before.before.args.w
+size : (c : tie.After-table_size-q) → c.table_size-q.result ≡ 4 ^ c.args.w
 size c =
-    let h = c.before.before.before.before in
-    c.table-size.ensures ∙ table_within (h.before.before.requires h.if2.false) (omega arith) ∙ table_one _
+    c.table_size-q.ensures ∙ table_within (c.requires c.if-want-2.false) (omega arith) ∙ table_one _
 
-returns : tie.Need-returns
-returns c = once_least c.before.args.want _ _ _ _ _ c.if1.true
+returns-then-want : tie.Need-returns-then-want
+returns-then-want c = once_least c.args.want _ _ _ _ _ c.if-want.true
 
-returns-2 : tie.Need-returns-2
-returns-2 c = once_halves c.before.before.args.want _ _ _ _ _ c.before.if1.false c.if2.true
+returns-then-want-2 : tie.Need-returns-then-want-2
+returns-then-want-2 c = once_halves c.args.want _ _ _ _ _ c.if-want.false c.if-want-2.true
 
-returns-3 : tie.Need-returns-3
-returns-3 c = let h = c.before in once_target h.before.before.args.want _ _ _ _ _ h.before.if1.false h.if2.false c.if3.true
+returns-then-want-3 : tie.Need-returns-then-want-3
+returns-then-want-3 c = once_target c.args.want _ _ _ _ _ c.if-want.false c.if-want-2.false c.if-want-3.true
 
-returns-4 : tie.Need-returns-4
-returns-4 c =
-    let h = c.before.before in
-    once_narrow h.before.before.args.want _ _ _ _ _ h.before.if1.false h.if2.false c.before.if3.false c.if4.true
+returns-then-w-lt-NARROWEST : tie.Need-returns-then-w-lt-NARROWEST
+returns-then-w-lt-NARROWEST c =
+    once_narrow c.args.want _ _ _ _ _ c.if-want.false c.if-want-2.false c.if-want-3.false c.if-w-lt-NARROWEST.true
 
-returns-5 : tie.Need-returns-5
-returns-5 c =
-    let n = c.before in
-    let h = n.before.before in
-    once_last h.before.before.args.want _ _ _ _ _ h.before.if1.false h.if2.false n.before.if3.false n.if4.false c.if5.true
+returns-then-after-eq0 : tie.Need-returns-then-after-eq0
+returns-then-after-eq0 c =
+    once_last c.args.want _ _ _ _ _ c.if-want.false c.if-want-2.false c.if-want-3.false c.if-w-lt-NARROWEST.false c.if-after-eq0.true
 
-table-size-requires : tie.Need-table-size-requires
-table-size-requires c κs = search rules
+table_size-q-requires : tie.Need-table_size-q-requires
+table_size-q-requires c κs = search rules
 
-returns-6 : tie.Need-returns-6
-returns-6 c =
-    let t = c.before in
-    let d = t.before in
-    let n = d.before in
-    let h = n.before.before in
-    once_part h.before.before.args.want _ _ _ _ _ h.before.if1.false h.if2.false n.before.if3.false n.if4.false d.if5.false
-    (λ e. c.if6.true (e ∙ sym (size t)))
+returns-then-count-q : tie.Need-returns-then-count-q
+returns-then-count-q c =
+    once_part c.args.want _ _ _ _ _ c.if-want.false c.if-want-2.false c.if-want-3.false c.if-w-lt-NARROWEST.false c.if-after-eq0.false
+    (λ e. c.if-count-q.true (e ∙ sym (size c.before)))
 
 apart-requires : tie.Need-apart-requires
 apart-requires c κs = search rules
 
-returns-7 : tie.Need-returns-7
-returns-7 c =
-    let b = c.before in
-    let t = b.before in
-    let d = t.before in
-    let n = d.before in
-    let h = n.before.before in
-    let g = h.before.before.args in
-    let e : are_apart g.source g.target t.table-size.result ≡ are_apart g.source g.target (4 ^ g.w) = rw (size t) in
+returns : tie.Need-returns
+returns c =
+    let g = c.args in
+    let e : are_apart g.source g.target c.table_size-q.result ≡ are_apart g.source g.target (4 ^ g.w) = rw (size c.before.before) in
     c.apart.ensures ∙ e
-    ∙ once_apart g.want _ _ _ _ _ h.before.if1.false h.if2.false n.before.if3.false n.if4.false d.if5.false (b.if6.false ∙ size t)
+    ∙ once_apart g.want _ _ _ _ _ c.if-want.false c.if-want-2.false c.if-want-3.false c.if-w-lt-NARROWEST.false c.if-after-eq0.false (c.if-count-q.false ∙ size c.before.before)
 
-pub by-columns-spec : {M : Type 1} → statement M
-by-columns-spec =
-    tie.close
-    (tie.spec returns returns-2 returns-3 returns-4 returns-5 table-size-requires returns-6 apart-requires returns-7)
+pub by_columns_spec : {M : Type 1} → statement M
+by_columns_spec = tie.close (tie.spec returns-then-want returns-then-want-2 returns-then-want-3 returns-then-w-lt-NARROWEST returns-then-after-eq0 table_size-q-requires returns-then-count-q apart-requires returns)

@@ -1,6 +1,5 @@
 -- `life::check_life` meets its contract: the check of the size and the rule decides, or else the cells'.
 -- Assumes nothing.
-use borrow.Author.Rules.{rules}
 use Rattle.board.proofs.Answers.{turned_away_lem, passed_on}
 use Rattle.life.specs.Calls.{life_check}
 use Rattle.life.proofs.check_life.Goals as goal

@@ -63,11 +63,10 @@ shape_of-ring c = search rules
 
 returns : tie.Need-returns
 unfolding step_rule step_writes
-returns c =
-    (
-      simp (checked c.before.before.before.before.before.before.before, eq-eqb _ _ c.if-ring-w.false),
-      simp (checked c.before.before.before.before.before.before.before, eq-eqb _ _ c.if-ring-w.false) (c.write_step.ensures ∙ stepped_same _ (next_under _) c.of-next.ensures.entry (board c.before.before.before.before.before.before.before).bytes),
-    )
+returns c = (
+  simp (checked c.before.before.before.before.before.before.before, eq-eqb _ _ c.if-ring-w.false),
+  simp (checked c.before.before.before.before.before.before.before, eq-eqb _ _ c.if-ring-w.false) (c.write_step.ensures ∙ stepped_same _ (next_under _) c.of-next.ensures.entry (board c.before.before.before.before.before.before.before).bytes),
+)
 
 pub step_spec : {M : Type 1} → statement M
 step_spec = tie.close (tie.spec check_life-requires enum_known-r returns-in-Refused enum_told-1 overflow_add-w overflow_add-h overflow_mul-w returns-then-ring-w of-next-requires write_step-requires shape_of-ring returns)

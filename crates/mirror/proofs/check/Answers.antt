@@ -4,7 +4,7 @@ use mathlib.Core.Path.{◌≡◌, sym, ◌∙◌}
 use mathlib.Core.Bool.{true, false}
 use mathlib.Core.List.{List}
 use mathlib.Core.Option.{Option, none, some}
-use Prim.Native.Nat.{ℕ, ◌+◌, ◌-◌, ◌/◌, ◌%◌, ◌≤◌}
+use Prim.Native.Nat.{ℕ, ◌+◌, ◌-◌, ◌/◌, ◌%◌}
 use native.Mathlib.Nat.{div-le_self, mod-le, mod-lt}
 use native.Mathlib.Omega.{arith}
 use borrow.Author.Rules.{rules}
@@ -28,10 +28,8 @@ module _ (w h : ℕ) (g : List ℕ) (place : ℕ) {x y : ℕ} (p : x ≡ byte_at
   marks_equal : x ≡ y → same_reflected w h g place ≡ true
   marks_equal e = eq-eqb _ _ (sym p ∙ e ∙ q)
 
-
   marks_differ : (x ≡ y → ⊥) → same_reflected w h g place ≡ false
   marks_differ n = ne_eqb _ _ (λ e. n (p ∙ e ∙ sym q))
-
 
 -- without a column no mark differs
 no_column : (w h : ℕ) (g : List ℕ) (p : ℕ) → w ≡ 0 → same_reflected w h g p ≡ true

@@ -1,6 +1,5 @@
 -- `rule::check` meets its contract: the size's check decides, or else the rule's.
 -- Assumes nothing.
-use borrow.Author.Rules.{rules}
 use Rattle.board.proofs.Answers.{turned_away_lem, passed_on}
 use Rattle.rule.specs.Rule.{grid_check}
 use Rattle.rule.proofs.check.Goals as goal

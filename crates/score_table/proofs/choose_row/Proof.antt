@@ -6,7 +6,7 @@ use Prim.Native.Nat.{suc, ◌+◌, ◌*◌, ◌-◌, ◌^◌, ◌≤◌, ◌<◌
 use native.Mathlib.Nat.{mul-le-mul}
 use native.Mathlib.Omega.{arith}
 use borrow.Author.Rules.{rules}
-use borrow.Author.Tests.{leb-true, not-true, not-false}
+use borrow.Author.Tests.{leb-true}
 use lib.ListN.{length}
 use Rattle.board.specs.Boards.{max_width, max_height, max_mirror_width}
 use Rattle.rule.specs.Rule.{entry_of}
@@ -24,7 +24,7 @@ use Rattle.score_table.proofs.choose_row.Tie as tie
 
 -- the givens fit, past the first test
 fitting : (c : tie.Else-not-fits) → let g = c.args in call_fits g.want g.w g.h g.givens.now ≡ true
-fitting c = sym c.fits2.ensures ∙ c.if-not-fits.false
+fitting c = sym c.fits.ensures ∙ c.if-not-fits.false
 
 lent : (c : tie.Else-not-fits) → let g = c.args in Memory g.want.halves g.w g.h g.givens.now
 lent c = call_memory c.args.want _ _ _ (fitting c)
@@ -90,7 +90,7 @@ fits-requires : tie.Need-fits-requires
 fits-requires c κs = search rules
 
 returns-then-not-fits : tie.Need-returns-then-not-fits
-returns-then-not-fits c = picks_unfit _ _ _ _ _ _ _ _ _ _ (sym c.fits2.ensures ∙ c.if-not-fits.true)
+returns-then-not-fits c = picks_unfit _ _ _ _ _ _ _ _ _ _ (sym c.fits.ensures ∙ c.if-not-fits.true)
 
 returns-then-h-r : tie.Need-returns-then-h-r
 returns-then-h-r c = picks_past _ _ _ _ _ _ _ _ _ _ (fitting c.before) c.if-h-r.true
@@ -145,20 +145,20 @@ enum_known-row c = search rules
 
 row_for-requires-in-Row : tie.Need-row_for-requires-in-Row
 row_for-requires-in-Row c κs =
-    ((lent (fitted c.before.before.before.before.before.before)).width, c.best_row.ensures.row_lt _ _ c.in-Row.is)
+    ((lent (fitted c.before.before.before.before)).width, c.best_row.ensures.row_lt _ _ c.in-Row.is)
 
 row_worth-requires : tie.Need-row_worth-requires
 row_worth-requires c κs = (wide c.before.before.before.before.before, cells_room c.before.before.before.before.before)
 
 returns-in-Nothing : tie.Need-returns-in-Nothing
 returns-in-Nothing c =
-    picks_choice _ _ _ _ _ _ _ _ _ _ (fitting (fitted c.before.before.before.before.before)) (inside c.before.before.before.before) (layered c.before.before.before.before.before.before.before) (over c.before.before.before.before) (below c.before.before.before.before)
+    picks_choice _ _ _ _ _ _ _ _ _ _ (fitting (fitted c.before.before.before.before)) (inside c.before.before.before.before) (layered c.before.before.before.before.before.before.before) (over c.before.before.before.before) (below c.before.before.before.before)
     (sym (ap choice_of c.in-Nothing.is) ∙ choice c.before)
 
 returns-in-Row : tie.Need-returns-in-Row
 returns-in-Row c =
-    let g = (start c.before.before.before.before.before.before.before.before).args in
-    picks_row _ _ _ _ _ _ _ _ _ _ (fitting (fitted c.before.before.before.before.before.before.before.before)) (inside c.before.before.before.before.before.before) (layered c.before.before.before.before.before.before.before.before.before) (over c.before.before.before.before.before.before) (below c.before.before.before.before.before.before)
+    let g = (start c.before.before.before.before.before.before).args in
+    picks_row _ _ _ _ _ _ _ _ _ _ (fitting (fitted c.before.before.before.before.before.before)) (inside c.before.before.before.before.before.before) (layered c.before.before.before.before.before.before.before.before.before) (over c.before.before.before.before.before.before) (below c.before.before.before.before.before.before)
     (sym (ap choice_of c.in-Row.is) ∙ choice c.before.before.before)
     (c.row_worth.ensures.0 ∙ ap (row_worth g.w (marks_of g.want.predecessor g.givens.now) (g.r * g.w)) c.row_for-in-Row.ensures.0)
 

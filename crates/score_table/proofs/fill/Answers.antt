@@ -1,8 +1,6 @@
 -- `score_table::fill` meets its contract: nothing is written unless there are such entries and the memory fits.
 -- Assumes nothing.
 use mathlib.Core.Path.{◌∙◌, sym}
-use borrow.Author.Rules.{rules}
-use borrow.Author.Tests.{not-true, not-false}
 use Rattle.score_table.proofs.Calls.{fits_read, fill_unfit, fill_done}
 use Rattle.score_table.proofs.fill.Goals as goal
 

@@ -5,7 +5,6 @@ use mathlib.Core.Bool.{true}
 use Prim.Native.Nat.{◌+◌, ◌^◌, ◌≤◌}
 use native.Mathlib.Omega.{arith}
 use borrow.Author.Rules.{rules}
-use borrow.Author.Tests.{not-true, not-false}
 use Rattle.board.specs.Boards.{max_width}
 use Rattle.score_table.specs.Rows.{digits_of}
 use Rattle.score_table.specs.Calls.{call_fits, layer_fits}
@@ -15,7 +14,7 @@ use Rattle.score_table.proofs.fill_fits.Tie as tie
 
 -- what each test that is passed shows
 fitting : (c : tie.Else-not-fits) → let g = c.args in call_fits g.want g.w g.h g.givens.now ≡ true
-fitting c = sym c.fits2.ensures ∙ c.if-not-fits.false
+fitting c = sym c.fits.ensures ∙ c.if-not-fits.false
 
 narrow : (c : tie.After-row_digits-bits) → c.row_digits-bits.result ≤ max_width
 narrow c =
@@ -35,7 +34,7 @@ fits-requires : tie.Need-fits-requires
 fits-requires c κs = search rules
 
 returns-then-not-fits : tie.Need-returns-then-not-fits
-returns-then-not-fits c = fits_unfit _ _ _ _ _ _ _ _ _ _ (sym c.fits2.ensures ∙ c.if-not-fits.true)
+returns-then-not-fits c = fits_unfit _ _ _ _ _ _ _ _ _ _ (sym c.fits.ensures ∙ c.if-not-fits.true)
 
 returns-then-h-after : tie.Need-returns-then-h-after
 returns-then-h-after c = fits_past _ _ _ _ _ _ _ _ _ _ (fitting c.before) c.if-h-after.true

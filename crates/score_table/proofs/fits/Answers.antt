@@ -2,7 +2,6 @@
 -- Assumes nothing.
 use mathlib.Core.Path.{◌∙◌, sym}
 use borrow.Author.Rules.{rules}
-use borrow.Author.Tests.{not-true, not-false}
 use Rattle.board.proofs.Widths.{width_le}
 use Rattle.score_table.proofs.Calls.{grid_of, call_unfit, call_numbers}
 use Rattle.score_table.proofs.fits.Goals as goal

@@ -5,7 +5,6 @@ use mathlib.Core.Bool.{true}
 use native.Mathlib.Nat.{mul-le-mul}
 use native.Mathlib.Omega.{arith}
 use borrow.Author.Rules.{rules}
-use borrow.Author.Tests.{not-true, not-false}
 use Rattle.board.specs.Boards.{width_fits}
 use Rattle.score_table.proofs.Calls.{grid_wide, grid_narrow, grid_tall, grid_marks}
 use Rattle.score_table.proofs.grid_fits.Statement.{statement}

@@ -1,6 +1,5 @@
 -- `score_table::layer_fits` meets its contract: the sum is tested as a difference, which can't wrap.
 -- Assumes nothing.
-use borrow.Author.Rules.{rules}
 use Rattle.score_table.proofs.Calls.{layer_short, layer_within}
 use Rattle.score_table.proofs.layer_fits.Goals as goal
 

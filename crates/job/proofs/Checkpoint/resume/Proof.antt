@@ -5,7 +5,6 @@ use mathlib.Core.Bool.{true}
 use Prim.Native.Nat.{ℕ}
 use native.Mathlib.Omega.{arith}
 use borrow.Author.Rules.{rules}
-use borrow.Author.Tests.{not-true, not-false}
 use Rattle.job.specs.Jobs.{checkpoint_fits, resume_rule}
 use Rattle.job.specs.declared.Job.{Job}
 use Rattle.job.specs.declared.JobResult.{JobResult}
@@ -38,8 +37,8 @@ job_of-requires c κs = let s = (numbers_at _ _ (numbers_fit_lem c)).frame.size 
 returns : tie.Need-returns
 unfolding resume_rule
 returns c = record {
-  says = rw c.Job-of.ensures (simp (numbers_fit_lem c.before, numbers_back _ _ (numbers_fit_lem c.before)));
-  job = λ j e. handed e c.Job-of.ensures;
+  says = rw c.job_of.ensures (simp (numbers_fit_lem c.before, numbers_back _ _ (numbers_fit_lem c.before)));
+  job = λ j e. handed e c.job_of.ensures;
 }
 
 pub resume_spec : {M : Type 1} → statement M

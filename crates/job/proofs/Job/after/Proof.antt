@@ -5,7 +5,6 @@ use mathlib.Core.Bool.{true}
 use Prim.Native.Nat.{◌≤◌}
 use native.Mathlib.Omega.{arith}
 use borrow.Author.Rules.{rules}
-use borrow.Author.Tests.{not-true, not-false}
 use Rattle.job.specs.Jobs.{runs_within}
 use Rattle.job.proofs.Rounds.{fills_on, units_on, rows_left}
 use Rattle.job.proofs.Next.{runs_within_lem, after_never, after_fills_lem, after_chooses, after_spent, rows_early}
@@ -30,7 +29,7 @@ after_entries-requires : tie.Need-after_entries-requires
 after_entries-requires c κs =
     let p = runs_within_lem c.args.self (running c.before.before.before.before) in
     let R = c.round_of-x.ensures in
-    let few = c.well-formed.0.1.1.1.1.1.1.0.1 in
+    let few = c.well_formed.0.1.1.1.1.1.1.0.1 in
     let some : 1 ≤ c.round_of-x.result.left = omega (arith, c.if-x-ne0.true) in
     (units_on R p.0 p.1 few 1 some, sym (fills_on R 1 some))
 

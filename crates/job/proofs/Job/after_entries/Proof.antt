@@ -3,7 +3,6 @@
 use mathlib.Core.Path.{◌≡◌, sym, ◌∙◌}
 use mathlib.Core.Bool.{true}
 use borrow.Author.Rules.{rules}
-use borrow.Author.Tests.{not-true, not-false}
 use Rattle.job.specs.Jobs.{runs_within}
 use Rattle.job.proofs.Rounds.{fills_on, units_on}
 use Rattle.job.proofs.Next.{runs_within_lem, entries_never, entries_left, entries_few}
@@ -32,7 +31,7 @@ after_entries-requires : tie.Need-after_entries-requires
 after_entries-requires c κs =
     let p = runs_within_lem c.args.self (running c.before.before.before.before) in
     let R = c.round_of-x.ensures in
-    let few = c.well-formed.0.1.1.1.1.1.1.0.1 in
+    let few = c.well_formed.0.1.1.1.1.1.1.0.1 in
     (units_on R p.0 p.1 few _ c.if-x-count.false, sym (fills_on R _ c.if-x-count.false))
 
 returns : tie.Need-returns

@@ -1,8 +1,6 @@
 -- `job::Job::pause` meets its contract: the job's test decides.
 -- Assumes nothing.
 use mathlib.Core.Path.{sym, ◌∙◌}
-use borrow.Author.Rules.{rules}
-use borrow.Author.Tests.{not-true, not-false}
 use Rattle.job.specs.Jobs.{pause_rule}
 use Rattle.job.proofs.Job.pause.Goals as goal
 

@@ -3,7 +3,6 @@
 use mathlib.Core.Path.{◌≡◌, sym, ◌∙◌}
 use mathlib.Core.Bool.{true}
 use borrow.Author.Rules.{rules}
-use borrow.Author.Tests.{not-true, not-false}
 use Rattle.job.specs.Jobs.{runs_within}
 use Rattle.job.proofs.Next.{runs_within_lem, due_while, due_never}
 use Rattle.job.proofs.Job.task.Statement.{statement}

@@ -3,7 +3,6 @@
 use mathlib.Core.Path.{◌≡◌, sym, ◌∙◌}
 use mathlib.Core.Bool.{true}
 use borrow.Author.Rules.{rules}
-use borrow.Author.Tests.{not-true, not-false}
 use Rattle.job.specs.Jobs.{numbers_of, checkpoint_fits, job_fits}
 use Rattle.job.proofs.Fits.{numbers_at}
 use Rattle.job.proofs.numbers.job_fits.Statement.{statement}

@@ -1,6 +1,5 @@
 -- `job::numbers::job_of` meets its contract: its rule and its stage are the numbers'.
 -- Assumes nothing.
-use borrow.Author.Rules.{rules}
 use Rattle.job.proofs.numbers.job_of.Goals as goal
 
 pub returns : goal.returns

@@ -1,6 +1,5 @@
 -- `job::numbers::numbers_of` meets its contract: four of the numbers are the stage's, and one the kind's.
 -- Assumes nothing.
-use borrow.Author.Rules.{rules}
 use Rattle.job.proofs.numbers.numbers_of.Goals as goal
 
 pub returns : goal.returns

@@ -13,7 +13,7 @@ use Rattle.job.proofs.numbers.rows_fit.Tie as tie
 
 -- past the second test the last row is 0 where no row is chosen
 last_fits : (c : tie.Joined-k-eq0) → cond (eqb c.args.k 0) (eqb c.args.last 0) true ≡ true
-last_fits c = ⊎_elim (λ w. simp (w.0.taken, w.1.left)) (λ w. simp (ne_eqb _ 0 w.left)) c.if-k-eq0.branch
+last_fits c = ⊎_elim (λ w. simp (w.if-k-eq0.true, w.if-last-ne0.false)) (λ w. simp (ne_eqb _ 0 w.if-k-eq0.false)) c.if-k-eq0.branch-raw
 
 overflow_mul-w : tie.Need-overflow_mul-w
 overflow_mul-w c = omega (arith, mul-le-mul c.requires.0 c.requires.1)

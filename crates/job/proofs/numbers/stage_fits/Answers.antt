@@ -1,7 +1,6 @@
 -- `job::numbers::stage_fits` meets its contract, by the stage.
 -- Assumes nothing.
 use mathlib.Core.Path.{sym}
-use borrow.Author.Rules.{rules}
 use Rattle.job.proofs.Rounds.{fills_left, chooses_left}
 use Rattle.job.proofs.numbers.stage_fits.Goals as goal
 

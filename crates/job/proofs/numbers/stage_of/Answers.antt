@@ -1,7 +1,6 @@
 -- `job::numbers::stage_of` meets its contract, by the mark and then the unit's round.
 -- Assumes nothing.
 use mathlib.Core.Path.{◌∙◌}
-use borrow.Author.Rules.{rules}
 use borrow.Author.Tests.{ne_eqb}
 use Rattle.job.specs.Jobs.{stage_of}
 use Rattle.job.proofs.Rounds.{fills_left}

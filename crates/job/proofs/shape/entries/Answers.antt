@@ -3,7 +3,6 @@
 use mathlib.Core.Path.{◌≡◌}
 use Prim.Native.Nat.{ℕ, ◌*◌, ◌%◌, ◌^◌, ◌≤◌}
 use native.Mathlib.Omega.{arith}
-use borrow.Author.Rules.{rules}
 use Rattle.board.specs.Boards.{max_width, max_height}
 use Rattle.board.specs.Checks.{table_size}
 use Rattle.board.proofs.Powers.{table_le, table_shift}

@@ -1,7 +1,6 @@
 -- `job::shape::layer_start` meets its contract: so many layers lie before it.
 -- Assumes nothing.
 use mathlib.Core.Path.{sym, ◌∙◌}
-use borrow.Author.Rules.{rules}
 use Rattle.job.proofs.shape.layer_start.Goals as goal
 
 pub returns-then-refills : goal.returns-then-refills

@@ -1,13 +1,8 @@
 -- `job::shape::round_of` meets its contract. The loop's invariant: the unit is `place` units after the start of round `rows`.
 -- Assumes nothing.
-use mathlib.Core.Path.{◌≡◌, refl}
-use Prim.Native.Nat.{ℕ, ◌+◌, ◌-◌, ◌≤◌, ◌<◌}
-use native.Mathlib.Numerals.{add-one}
-use native.Mathlib.Omega.{arith}
-use Rattle.job_kind.specs.Kinds.{round_start, round_work}
-use Rattle.job.specs.Inner.{RoundIs}
-use Rattle.job_kind.specs.declared.Kind.{Kind}
-use Rattle.job_kind.proofs.Shapes.{shape_rounds}
+use mathlib.Core.Path.{◌≡◌}
+use Prim.Native.Nat.{◌+◌, ◌-◌, ◌≤◌}
+use Rattle.job_kind.specs.Kinds.{round_start}
 use Rattle.job.proofs.shape.round_of.Given as goal
 
 abbrev pub invariant-loop-rows : goal.invariant-loop-rows

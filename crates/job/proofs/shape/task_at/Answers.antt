@@ -1,7 +1,6 @@
 -- `job::shape::task_at` meets its contract: the unit's round says what it does.
 -- Assumes nothing.
 use native.Mathlib.Omega.{arith}
-use borrow.Author.Rules.{rules}
 use borrow.Author.Tests.{lt-ltb, le-ltb}
 use Rattle.job.proofs.Rounds.{fills_entry, chooses_row, rows_spent}
 use Rattle.job.proofs.shape.task_at.Goals as goal

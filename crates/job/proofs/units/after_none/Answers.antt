@@ -2,7 +2,6 @@
 -- Assumes nothing.
 use native.Mathlib.Numerals.{add-one}
 use native.Mathlib.Omega.{arith}
-use borrow.Author.Rules.{rules}
 use Rattle.job.proofs.Next.{units_few}
 use Rattle.job.proofs.units.after_none.Goals as goal
 
@@ -13,4 +12,4 @@ pub job_of-requires : goal.job_of-requires
 job_of-requires c = let p = c.requires in rw c.numbers_of-t.ensures (p.0, p.1)
 
 pub returns : goal.returns
-returns c = rw (c.Job-of.ensures, c.numbers_of-t.ensures, add-one)
+returns c = rw (c.job_of.ensures, c.numbers_of-t.ensures, add-one)

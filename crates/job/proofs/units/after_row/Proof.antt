@@ -68,7 +68,7 @@ returns : tie.Need-returns
 returns c =
     let n = c.numbers_of-t.ensures in
     rw (
-      c.Job-of.ensures,
+      c.job_of.ensures,
       n,
       c.mark_after.ensures,
       add-one,

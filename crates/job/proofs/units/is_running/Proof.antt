@@ -2,7 +2,7 @@
 -- Assumes nothing.
 use mathlib.Core.Path.{◌≡◌, sym, ◌∙◌}
 use borrow.Author.Rules.{rules}
-use borrow.Author.Tests.{le-leb, lt-leb, not-true, not-false}
+use borrow.Author.Tests.{le-leb, lt-leb}
 use Rattle.board.specs.Boards.{width_fits}
 use Rattle.job_kind.specs.Kinds.{halves_of}
 use Rattle.job.proofs.units.is_running.Statement.{statement}

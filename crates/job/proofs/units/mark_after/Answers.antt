@@ -1,7 +1,6 @@
 -- `job::units::mark_after` meets its contract, by its test.
 -- Assumes nothing.
 use native.Mathlib.Omega.{arith}
-use borrow.Author.Rules.{rules}
 use borrow.Author.Tests.{lt-ltb, le-ltb}
 use Prim.Native.Nat.{suc}
 use Rattle.job.proofs.units.mark_after.Goals as goal

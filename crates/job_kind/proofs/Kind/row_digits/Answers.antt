@@ -1,6 +1,5 @@
 -- `job_kind::Kind::row_digits` meets its contract: the digits are by how the kind holds rows.
 -- Assumes nothing.
-use borrow.Author.Rules.{rules}
 use Rattle.job_kind.proofs.Kind.row_digits.Goals as goal
 
 pub returns : goal.returns

@@ -12,70 +12,53 @@ use native.Mathlib.Nat.{mul-le-mul_right}
 use Rattle.layers.proofs.layer.load_eight.Statement.{statement}
 use Rattle.layers.proofs.layer.load_eight.Tie as tie
 
-abbrev invariant-loop : tie.invariant-loop
-invariant-loop limit gain n table at s₀ o l₀ s l = (l ≤ 8) × Wrote o l (λ y. scored limit gain (get_or table (at + y * n) 0)) s₀ s
+abbrev invariant-loop-l : tie.invariant-loop-l
+invariant-loop-l limit gain n table at s₀ o l₀ s l = (l ≤ 8) × Wrote o l (λ y. scored limit gain (get_or table (at + y * n) 0)) s₀ s
 
-abbrev decreases-loop : tie.decreases-loop
-decreases-loop limit gain n table at s₀ o l₀ s l = 8 - l
+abbrev decreases-loop-l : tie.decreases-loop-l
+decreases-loop-l limit gain n table at s₀ o l₀ s l = 8 - l
 
-room : (c : tie.In-loop invariant-loop decreases-loop) → c.before.loop.l * c.before.before.before.args.n ≤ 7 * c.before.before.before.args.n
-room c = mul-le-mul_right c.before.before.before.args.n (omega arith)
+room : (c : tie.In-loop-l invariant-loop-l decreases-loop-l) → c.loop-l.l * c.args.n ≤ 7 * c.args.n
+room c = mul-le-mul_right c.args.n (omega arith)
 
-loop-holds : tie.Need-loop-init invariant-loop decreases-loop
-loop-holds c = (search rules, wrote_none _ _ _)
+loop-l-init : tie.Need-loop-l-init invariant-loop-l decreases-loop-l
+loop-l-init c = (search rules, wrote_none _ _ _)
 
-mul-number : tie.Need-overflow-mul-number invariant-loop decreases-loop
-mul-number c = omega (arith, room c)
+overflow_mul-l : tie.Need-overflow_mul-l invariant-loop-l decreases-loop-l
+overflow_mul-l c = omega (arith, room c)
 
-add-number : tie.Need-overflow-add-number invariant-loop decreases-loop
-add-number c = omega (arith, room c)
+overflow_add-at : tie.Need-overflow_add-at invariant-loop-l decreases-loop-l
+overflow_add-at c = omega (arith, room c)
 
-mul-number-2 : tie.Need-overflow-mul-number-2 invariant-loop decreases-loop
-mul-number-2 c = omega (arith, room c)
+offset_bounds-table-at : tie.Need-offset_bounds-table-at invariant-loop-l decreases-loop-l
+offset_bounds-table-at c = omega (arith, room c)
 
-shared-slice-read-number : tie.Need-shared-slice-read-number invariant-loop decreases-loop
-shared-slice-read-number c = omega (arith, room c.before)
+bounds-table-at : tie.Need-bounds-table-at invariant-loop-l decreases-loop-l
+bounds-table-at c = omega (arith, room c.before)
 
-number-requires : tie.Need-number-requires invariant-loop decreases-loop
-number-requires c κs = search rules
+number-v-requires : tie.Need-number-v-requires invariant-loop-l decreases-loop-l
+number-v-requires c κs = search rules
 
-add-s : tie.Need-overflow-add-s invariant-loop decreases-loop
-add-s c = search rules
+overflow_add-s : tie.Need-overflow_add-s invariant-loop-l decreases-loop-l
+overflow_add-s c = search rules
 
-mul-s : tie.Need-overflow-mul-s invariant-loop decreases-loop
-mul-s c = search rules
+offset_bounds-s-o : tie.Need-offset_bounds-s-o invariant-loop-l decreases-loop-l
+offset_bounds-s-o c = search rules
 
-element-write-s : tie.Need-element-write-s invariant-loop decreases-loop
-element-write-s c = search rules
+bounds-s-o : tie.Need-bounds-s-o invariant-loop-l decreases-loop-l
+bounds-s-o c = search rules
 
-add-l : tie.Need-overflow-add-l invariant-loop decreases-loop
-add-l c = search rules
+overflow_step-l : tie.Need-overflow_step-l invariant-loop-l decreases-loop-l
+overflow_step-l c = search rules
 
-loop-less : tie.Need-loop-smaller invariant-loop decreases-loop
-loop-less c = search rules
+loop-l-smaller : tie.Need-loop-l-smaller invariant-loop-l decreases-loop-l
+loop-l-smaller c = search rules
 
-loop-again : tie.Need-loop-preserved invariant-loop decreases-loop
-loop-again c = (search rules, wrote_more c.before.before.before.loop.invariant.1 _ refl _ c.number.ensures)
+loop-l-preserved : tie.Need-loop-l-preserved invariant-loop-l decreases-loop-l
+loop-l-preserved c = (search rules, wrote_more c.loop-l.invariant.1 _ refl _ c.number-v.ensures)
 
-returns : tie.Need-returns invariant-loop decreases-loop
-returns c = let e : c.before.loop.l ≡ 8 = omega arith in rw e at c.before.loop.invariant.1
+returns : tie.Need-returns invariant-loop-l decreases-loop-l
+returns c = let e : c.loop-l.l ≡ 8 = omega arith in rw e at c.loop-l.invariant.1
 
-pub load-eight-spec : {M : Type 1} → statement M
-load-eight-spec =
-    tie.close
-    (tie.spec
-    invariant-loop
-    decreases-loop
-    loop-holds
-    mul-number
-    add-number
-    mul-number-2
-    shared-slice-read-number
-    number-requires
-    add-s
-    mul-s
-    element-write-s
-    add-l
-    loop-less
-    loop-again
-    returns)
+pub load_eight_spec : {M : Type 1} → statement M
+load_eight_spec = tie.close (tie.spec invariant-loop-l decreases-loop-l loop-l-init overflow_mul-l overflow_add-at offset_bounds-table-at bounds-table-at number-v-requires overflow_add-s offset_bounds-s-o bounds-s-o overflow_step-l loop-l-smaller loop-l-preserved returns)

@@ -12,63 +12,49 @@ use native.Mathlib.Nat.{mul-le-mul_right}
 use Rattle.layers.proofs.layer.write_all.Statement.{statement}
 use Rattle.layers.proofs.layer.write_all.Tie as tie
 
-abbrev invariant-loop : tie.invariant-loop
-invariant-loop src last n table₀ target b a₀ table a = (a ≤ n) × (length table ≡ length table₀) × Spread n target b a (λ x l. entry_in (after_last src last x l)) table₀ table
+abbrev invariant-loop-a : tie.invariant-loop-a
+invariant-loop-a src last n table₀ target b a₀ table a = (a ≤ n) × (length table ≡ length table₀) × Spread n target b a (λ x l. entry_in (after_last src last x l)) table₀ table
 
-abbrev decreases-loop : tie.decreases-loop
-decreases-loop src last n table₀ target b a₀ table a = n - a
+abbrev decreases-loop-a : tie.decreases-loop-a
+decreases-loop-a src last n table₀ target b a₀ table a = n - a
 
 -- a row of the layer has room
-room : (c : tie.In-loop invariant-loop decreases-loop) → let g = c.before.before.before.args in g.target + c.before.loop.a * g.n + g.n ≤ length g.table.now
-room c = omega (arith, c.before.before.before.requires.2, mul-le-mul_right c.before.before.before.args.n c.loop-test.true)
+room : (c : tie.In-loop-a invariant-loop-a decreases-loop-a) → let g = c.args in g.target + c.loop-a.a * g.n + g.n ≤ length g.table.now
+room c = omega (arith, c.requires.2, mul-le-mul_right c.args.n c.loop-a-test.true)
 
-loop-holds : tie.Need-loop-init invariant-loop decreases-loop
-loop-holds c = (search rules, refl, spread_none _ _ _ (omega arith) _ _)
+loop-a-init : tie.Need-loop-a-init invariant-loop-a decreases-loop-a
+loop-a-init c = (search rules, refl, spread_none _ _ _ (omega arith) _ _)
 
-mul-write-eight : tie.Need-overflow-mul-write-eight invariant-loop decreases-loop
-mul-write-eight c = omega (arith, room c.before)
+overflow_mul-a : tie.Need-overflow_mul-a invariant-loop-a decreases-loop-a
+overflow_mul-a c = omega (arith, room c.before)
 
-add-write-eight : tie.Need-overflow-add-write-eight invariant-loop decreases-loop
-add-write-eight c = omega (arith, room c.before)
+overflow_add-target : tie.Need-overflow_add-target invariant-loop-a decreases-loop-a
+overflow_add-target c = omega (arith, room c.before)
 
-add-write-eight-2 : tie.Need-overflow-add-write-eight-2 invariant-loop decreases-loop
-add-write-eight-2 c = omega (arith, room c.before)
+overflow_add-target-in-loop-a : tie.Need-overflow_add-target-in-loop-a invariant-loop-a decreases-loop-a
+overflow_add-target-in-loop-a c = omega (arith, room c.before)
 
-write-eight-requires : tie.Need-write-eight-requires invariant-loop decreases-loop
-write-eight-requires c κs = (omega arith, omega (arith, room c.before))
+write_eight-requires : tie.Need-write_eight-requires invariant-loop-a decreases-loop-a
+write_eight-requires c κs = (omega arith, omega (arith, room c.before))
 
-add_a : tie.Need-overflow-add-a invariant-loop decreases-loop
-add_a c = search rules
+overflow_step-a : tie.Need-overflow_step-a invariant-loop-a decreases-loop-a
+overflow_step-a c = search rules
 
-loop-less : tie.Need-loop-smaller invariant-loop decreases-loop
-loop-less c = search rules
+loop-a-smaller : tie.Need-loop-a-smaller invariant-loop-a decreases-loop-a
+loop-a-smaller c = search rules
 
-loop-again : tie.Need-loop-preserved invariant-loop decreases-loop
-loop-again c = (
+loop-a-preserved : tie.Need-loop-a-preserved invariant-loop-a decreases-loop-a
+loop-a-preserved c = (
   search rules,
-  c.before.before.write-eight.ensures.long ∙ c.before.before.before.before.before.loop.invariant.1,
-  spread_more _ _ _ (omega arith) _ c.before.before.before.before.before.loop.invariant.2 c.before.before.before.before.loop-test.true (omega (arith, c.before.before.before.before.before.loop.invariant.1, c.before.before.before.before.before.before.before.requires.2)) c.before.before.write-eight.ensures (λ l h. refl),
+  c.write_eight.ensures.long ∙ c.loop-a.invariant.1,
+  spread_more _ _ _ (omega arith) _ c.loop-a.invariant.2 c.loop-a-test.true (omega (arith, c.loop-a.invariant.1, c.requires.2)) c.write_eight.ensures (λ l h. refl),
 )
 
-same_length : tie.Need-same-length invariant-loop decreases-loop
-same_length c = search rules
+shape_of-table : tie.Need-shape_of-table invariant-loop-a decreases-loop-a
+shape_of-table c = search rules
 
-returns : tie.Need-returns invariant-loop decreases-loop
-returns c = let e : c.before.loop.a ≡ c.before.before.before.args.n = omega arith in rw e at c.before.loop.invariant.2
+returns : tie.Need-returns invariant-loop-a decreases-loop-a
+returns c = let e : c.loop-a.a ≡ c.args.n = omega arith in rw e at c.loop-a.invariant.2
 
-pub write-all-spec : {M : Type 1} → statement M
-write-all-spec =
-    tie.close
-    (tie.spec
-    invariant-loop
-    decreases-loop
-    loop-holds
-    mul-write-eight
-    add-write-eight
-    add-write-eight-2
-    write-eight-requires
-    add_a
-    loop-less
-    loop-again
-    same_length
-    returns)
+pub write_all_spec : {M : Type 1} → statement M
+write_all_spec = tie.close (tie.spec invariant-loop-a decreases-loop-a loop-a-init overflow_mul-a overflow_add-target overflow_add-target-in-loop-a write_eight-requires overflow_step-a loop-a-smaller loop-a-preserved shape_of-table returns)

@@ -1,12 +1,10 @@
 -- `life::plane::write_step` meets its contract. The loop's invariant: the bytes passed are the next states, the others are as they were.
 -- The measure: the bytes left. Assumes nothing.
 use mathlib.Core.Path.{◌≡◌, refl, ◌∙◌}
-use mathlib.Core.List.{◌++◌}
-use Prim.Native.Nat.{◌-◌, ◌<◌, ◌≤◌}
+use Prim.Native.Nat.{◌<◌}
 use native.Mathlib.Omega.{arith}
 use borrow.Author.Rules.{rules}
-use lib.ListN.{length, length-set, drop}
-use Rattle.board.specs.Lists.{listed}
+use lib.ListN.{length, length-set}
 use Rattle.board.proofs.Lists.{listed_none, listed_more, listed_all}
 use Rattle.rule.specs.Rule.{entry_of}
 use Rattle.life.specs.Calls.{ring_size, next_at, stepped}

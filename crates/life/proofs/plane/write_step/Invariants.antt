@@ -1,16 +1,12 @@
 -- `life::plane::write_step` meets its contract. The loop's invariant: the bytes passed are the next states, the others are as they were.
 -- The measure: the bytes left. Assumes nothing.
-use mathlib.Core.Path.{◌≡◌, refl, ◌∙◌}
+use mathlib.Core.Path.{◌≡◌}
 use mathlib.Core.List.{◌++◌}
-use Prim.Native.Nat.{◌-◌, ◌<◌, ◌≤◌}
-use native.Mathlib.Omega.{arith}
-use borrow.Author.Rules.{rules}
-use lib.ListN.{length, length-set, drop}
+use Prim.Native.Nat.{◌-◌, ◌≤◌}
+use lib.ListN.{length, drop}
 use Rattle.board.specs.Lists.{listed}
-use Rattle.board.proofs.Lists.{listed_none, listed_more, listed_all}
 use Rattle.rule.specs.Rule.{entry_of}
-use Rattle.life.specs.Calls.{ring_size, next_at, stepped}
-use Rattle.life.proofs.Ring.{place_row, place_column, next_is}
+use Rattle.life.specs.Calls.{next_at}
 use Rattle.life.proofs.plane.write_step.Given as goal
 
 abbrev pub invariant-loop-k : goal.invariant-loop-k

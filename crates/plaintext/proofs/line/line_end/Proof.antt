@@ -9,36 +9,27 @@ use Rattle.plaintext.proofs.Lines.{line_ends}
 use Rattle.plaintext.proofs.line.line_end.Statement.{statement}
 use Rattle.plaintext.proofs.line.line_end.Tie as tie
 
-sub-line-length : tie.Need-overflow-sub-line-length
-sub-line-length c = search rules
-
-part-line-length-start : tie.Need-slice-bounds-line-length-start
-part-line-length-start c = search rules
-
-part-line-length-end : tie.Need-slice-bounds-line-length-end
-part-line-length-end c = search rules
-
-line-length-requires : tie.Need-line-length-requires
-line-length-requires c κs = search rules
-
-ends : (c : tie.After-line-length) → let a = c.before.before.before.args in EndsAt a.text.now a.from (a.from + c.line-length.result)
+ends : (c : tie.After-line_length) → let a = c.args in EndsAt a.text.now a.from (a.from + c.line_length.result)
 ends c =
-    let b = c.before.before.before in
-    line_ends b.args.text.now b.args.from c.line-length.result b.requires (rw (rest_whole b.args.from b.args.text.now) at c.line-length.ensures)
+    line_ends c.args.text.now c.args.from c.line_length.result c.requires (rw (rest_whole c.args.from c.args.text.now) at c.line_length.ensures)
 
-add-result : tie.Need-overflow-add-result
-add-result c = omega (arith, (ends c).inside)
+slice_bounds-line_length-count : tie.Need-slice_bounds-line_length-count
+slice_bounds-line_length-count c = search rules
+
+slice_bounds-line_length-start : tie.Need-slice_bounds-line_length-start
+slice_bounds-line_length-start c = search rules
+
+slice_bounds-line_length-end : tie.Need-slice_bounds-line_length-end
+slice_bounds-line_length-end c = search rules
+
+line_length-requires : tie.Need-line_length-requires
+line_length-requires c κs = search rules
+
+overflow_add-result : tie.Need-overflow_add-result
+overflow_add-result c = omega (arith, (ends c).inside)
 
 returns : tie.Need-returns
 returns c = ends c
 
-pub line-end-spec : {M : Type 1} → statement M
-line-end-spec =
-    tie.close
-    (tie.spec
-    sub-line-length
-    part-line-length-start
-    part-line-length-end
-    line-length-requires
-    add-result
-    returns)
+pub line_end_spec : {M : Type 1} → statement M
+line_end_spec = tie.close (tie.spec slice_bounds-line_length-count slice_bounds-line_length-start slice_bounds-line_length-end line_length-requires overflow_add-result returns)

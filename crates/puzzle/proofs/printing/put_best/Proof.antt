@@ -13,81 +13,59 @@ use Rattle.puzzle.proofs.printing.put_best.Statement.{statement}
 use Rattle.puzzle.proofs.printing.put_best.Tie as tie
 
 -- the score's line is short, and the output keeps its length
-short : (c : tie.After-put-line) → (c.put-line.result ≤ 5) × (length c.put-line.new.1.1.0 ≡ 665)
+short : (c : tie.After-put_line-from) → (c.put_line-from.result ≤ 5) × (length c.put_line-from.new.output ≡ 665)
 short c =
-    let a = c.before.before.before.before.before in
-    let s = line_short (bang ∷ []) a.args.score a.requires.1 in
-    let n = c.put-line.ensures.count in
-    let k = c.put-line.auto.1.1.0 in
+    let s = line_short (bang ∷ []) c.args.score c.requires.1 in
+    let n = c.put_line-from.ensures.count in
+    let k = c.put_line-from.auto.output in
     (omega arith, omega arith)
 
 -- so there is room for the board's text
-room : (c : tie.After-put-line)
-    → let l = c.put-line.new.1.1.0 in let k = c.put-line.result in 660 ≤ length (take (length l - k) (drop k l))
-room c = let s = short c in rw (rest_long c.put-line.result c.put-line.new.1.1.0) (omega arith)
+room : (c : tie.After-put_line-from)
+    → let l = c.put_line-from.new.output in let k = c.put_line-from.result in 660 ≤ length (take (length l - k) (drop k l))
+room c = let s = short c in rw (rest_long c.put_line-from.result c.put_line-from.new.output) (omega arith)
 
-slice-aggregate-put-line : tie.Need-slice-aggregate-put-line
-slice-aggregate-put-line c = search rules
+put_line-from-requires : tie.Need-put_line-from-requires
+put_line-from-requires c κs = search rules
 
-put-line-requires : tie.Need-put-line-requires
-put-line-requires c κs = search rules
+slice_bounds-write-count : tie.Need-slice_bounds-write-count
+slice_bounds-write-count c = let s = short c.before.before in omega arith
 
-sub-write : tie.Need-overflow-sub-write
-sub-write c = let s = short c.before.before in omega arith
+slice_bounds-write-start : tie.Need-slice_bounds-write-start
+slice_bounds-write-start c = let s = short c.before.before in omega arith
 
-part-write-start : tie.Need-slice-bounds-write-start
-part-write-start c = let s = short c.before.before in omega arith
-
-part-write-end : tie.Need-slice-bounds-write-end
-part-write-end c = search rules
+slice_bounds-write-end : tie.Need-slice_bounds-write-end
+slice_bounds-write-end c = search rules
 
 write-requires : tie.Need-write-requires
 write-requires c κs = search rules
 
-enum-known-letters : tie.Need-enum-known-letters
-enum-known-letters c = search rules
+enum_known-letters : tie.Need-enum_known-letters
+enum_known-letters c = search rules
 
-add-result : tie.Need-overflow-add-result
-add-result c =
-    let l = c.before.before.before.before.before.before.before.before.before in
-    let s = short l in
-    let n = letters_short l.before.before.before.before.before.requires.0 (room l) c.before.before.before.before.before.write.ensures c.before.letters.given.1 in
+overflow_add-result : tie.Need-overflow_add-result
+overflow_add-result c =
+    let s = short c.before.before.before.before.before.before.before in
+    let n = letters_short c.requires.0 (room c.before.before.before.before.before.before.before) c.write.ensures c.in-Length.is in
     omega arith
 
-enum_told : tie.Need-enum-told
-enum_told c = search rules
+enum_told-1 : tie.Need-enum_told-1
+enum_told-1 c = search rules
 
-same_length : tie.Need-same-length
-same_length c = search rules
+shape_of-output-in-Length : tie.Need-shape_of-output-in-Length
+shape_of-output-in-Length c = search rules
 
-returns : tie.Need-returns
-returns c =
-    let l = c.before.before.before.before.before.before.before.before.before in
-    prints_more l.put-line.ensures
-    (prints_board l.before.before.before.before.before.requires.0 (room l) c.before.before.before.before.before.write.ensures c.before.letters.given.1)
+returns-in-Length : tie.Need-returns-in-Length
+returns-in-Length c =
+    prints_more c.put_line-from.ensures
+    (prints_board c.requires.0 (room c.before.before.before.before.before.before.before) c.write.ensures c.in-Length.is)
 
-same-length-2 : tie.Need-same-length-2
-same-length-2 c = search rules
+shape_of-output-in-Refused : tie.Need-shape_of-output-in-Refused
+shape_of-output-in-Refused c = search rules
 
-returns-2 : tie.Need-returns-2
-returns-2 c =
-    let l = c.before.before.before.before.before.before.before.before in
-    absurd (never_refused l.before.before.before.before.before.requires.0 (room l) c.before.before.before.before.write.ensures c.enum_told.given.1)
+returns-in-Refused : tie.Need-returns-in-Refused
+returns-in-Refused c =
+    absurd (never_refused c.requires.0 (room c.before.before.before.before.before.before.before) c.write.ensures c.in-Refused.is)
 
-pub put-best-spec : {M : Type 1} → statement M
-put-best-spec =
-    tie.close
-    (tie.spec
-    slice-aggregate-put-line
-    put-line-requires
-    sub-write
-    part-write-start
-    part-write-end
-    write-requires
-    enum-known-letters
-    add-result
-    enum_told
-    same_length
-    returns
-    same-length-2
-    returns-2)
+pub put_best_spec : {M : Type 1} → statement M
+put_best_spec = tie.close (tie.spec put_line-from-requires slice_bounds-write-count slice_bounds-write-start slice_bounds-write-end write-requires enum_known-letters overflow_add-result enum_told-1 shape_of-output-in-Length returns-in-Length shape_of-output-in-Refused returns-in-Refused)

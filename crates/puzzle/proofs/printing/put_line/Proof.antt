@@ -12,75 +12,63 @@ use Rattle.puzzle.proofs.printing.put_line.Statement.{statement}
 use Rattle.puzzle.proofs.printing.put_line.Tie as tie
 
 -- the output keeps its length
-long : (c : tie.After-slice-known3)
-    → let p = c.before.before.before.before.before.before.put in
-    length (put_mid p.result (length p.new.1.0 - p.result) p.new.1.0 c.before.before.put-number.new.1.0)
-    ≡ length c.before.before.before.before.before.before.before.before.before.before.args.output.now
+long : (c : tie.After-slice_known-3-1)
+    → let p = c.put-from in
+    length (put_mid p.result (length p.new.output - p.result) p.new.output c.put_number.new.output)
+    ≡ length c.args.output.now
 long c =
-    let p = c.before.before.before.before.before.before.put in
-    let q = c.before.before.put-number in
-    same_len_mid p.result (length p.new.1.0 - p.result) p.new.1.0 q.new.1.0 q.auto.1.0 ∙ p.auto.1.0
+    let p = c.put-from in
+    let q = c.put_number in
+    same_len_mid p.result (length p.new.output - p.result) p.new.output q.new.output q.auto.output ∙ p.auto.output
 
 -- there is room for LF
-short : (c : tie.After-slice-known3)
-    → c.before.before.before.before.before.before.put.result + c.before.before.put-number.result
-    < length c.before.before.before.before.before.before.before.before.before.before.args.output.now
+short : (c : tie.After-slice_known-3-1)
+    → c.put-from.result + c.put_number.result
+    < length c.args.output.now
 short c =
-    let s = decimal_short _ c.before.before.before.before.before.before.before.before.before.before.requires.0 in
-    let p = c.before.before.before.before.before.before.put.ensures.count in
-    let q = c.before.before.put-number.ensures.count in
+    let s = decimal_short _ c.requires.0 in
+    let p = c.put-from.ensures.count in
+    let q = c.put_number.ensures.count in
     omega arith
 
-put-requires : tie.Need-put-requires
-put-requires c κs = search rules
+put-from-requires : tie.Need-put-from-requires
+put-from-requires c κs = search rules
 
-sub-put-number : tie.Need-overflow-sub-put-number
-sub-put-number c = search rules
+slice_bounds-put_number-count : tie.Need-slice_bounds-put_number-count
+slice_bounds-put_number-count c = search rules
 
-part-put-number-start : tie.Need-slice-bounds-put-number-start
-part-put-number-start c = search rules
+slice_bounds-put_number-start : tie.Need-slice_bounds-put_number-start
+slice_bounds-put_number-start c = search rules
 
-part-put-number-end : tie.Need-slice-bounds-put-number-end
-part-put-number-end c = search rules
+slice_bounds-put_number-end : tie.Need-slice_bounds-put_number-end
+slice_bounds-put_number-end c = search rules
 
-put-number-requires : tie.Need-put-number-requires
-put-number-requires c κs = search rules
+put_number-requires : tie.Need-put_number-requires
+put_number-requires c κs = search rules
 
-add-end : tie.Need-overflow-add-end
-add-end c =
+overflow_add-end : tie.Need-overflow_add-end
+overflow_add-end c =
     let s = short c in
     omega arith
 
-slice-write-output : tie.Need-slice-write-output
-slice-write-output c =
+bounds-output-end : tie.Need-bounds-output-end
+bounds-output-end c =
     let s = short c in
     let l = long c in
     omega arith
 
-add-result : tie.Need-overflow-add-result
-add-result c =
+overflow_add-result : tie.Need-overflow_add-result
+overflow_add-result c =
     let s = short c in
     omega arith
 
-same_length : tie.Need-same-length
-same_length c = rw length-set (long c)
+shape_of-output : tie.Need-shape_of-output
+shape_of-output c = rw length-set (long c)
 
 returns : tie.Need-returns
 returns c =
     let s = short c in
-    prints_byte LF (prints_more c.before.before.before.before.before.before.put.ensures c.before.before.put-number.ensures) (omega arith)
+    prints_byte LF (prints_more c.put-from.ensures c.put_number.ensures) (omega arith)
 
-pub put-line-spec : {M : Type 1} → statement M
-put-line-spec =
-    tie.close
-    (tie.spec
-    put-requires
-    sub-put-number
-    part-put-number-start
-    part-put-number-end
-    put-number-requires
-    add-end
-    slice-write-output
-    add-result
-    same_length
-    returns)
+pub put_line_spec : {M : Type 1} → statement M
+put_line_spec = tie.close (tie.spec put-from-requires slice_bounds-put_number-count slice_bounds-put_number-start slice_bounds-put_number-end put_number-requires overflow_add-end bounds-output-end overflow_add-result shape_of-output returns)

@@ -1,12 +1,10 @@
 -- `rule::table::fill` meets its contract. The loop's invariant: the entries passed are the rule's, the others are as they were.
 -- The measure: the entries left. Assumes nothing.
 use mathlib.Core.Path.{◌≡◌, refl, ◌∙◌}
-use mathlib.Core.List.{◌++◌}
-use Prim.Native.Nat.{◌-◌, ◌<◌, ◌≤◌}
+use Prim.Native.Nat.{◌<◌}
 use native.Mathlib.Omega.{arith}
 use borrow.Author.Rules.{rules}
-use lib.ListN.{length, length-set, drop}
-use Rattle.board.specs.Lists.{listed}
+use lib.ListN.{length, length-set}
 use Rattle.board.proofs.Lists.{listed_none, listed_more, listed_all}
 use Rattle.rule.specs.Rule.{next_under, table_of}
 use Rattle.rule.proofs.table.fill.Goals as goal

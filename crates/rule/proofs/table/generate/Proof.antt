@@ -40,11 +40,10 @@ shape_of-table c = search rules
 
 returns : tie.Need-returns
 unfolding generate_rule generate_writes
-returns c =
-    (
-      simp (checked c.before.before.before.before.before, eq-eqb _ _ c.if-table-ne512.false),
-      simp (checked c.before.before.before.before.before, eq-eqb _ _ c.if-table-ne512.false) c.fill.ensures,
-    )
+returns c = (
+  simp (checked c.before.before.before.before.before, eq-eqb _ _ c.if-table-ne512.false),
+  simp (checked c.before.before.before.before.before, eq-eqb _ _ c.if-table-ne512.false) c.fill.ensures,
+)
 
 pub generate_spec : {M : Type 1} → statement M
 generate_spec = tie.close (tie.spec check_rule-requires enum_known-r returns-in-Refused enum_told-1 returns-then-table-ne512 fill-requires shape_of-table returns)

@@ -1,7 +1,6 @@
 -- `rule::table::next_of` meets its contract: the centre's digit picks births or survivals.
 -- Assumes nothing.
 use mathlib.Core.Path.{◌∙◌, ap}
-use borrow.Author.Rules.{rules}
 use borrow.Author.Tests.{eq-eqb, ne_eqb}
 use Rattle.rule.specs.Rule.{has_count, next_under}
 use Rattle.rule.proofs.table.next_of.Goals as goal

@@ -1,7 +1,5 @@
 -- `rule::table::of` meets its contract: the constants hold Conway's rule, and the table that is filled holds its own.
 -- Assumes nothing.
-use borrow.Author.Rules.{rules}
-use borrow.Author.Tests.{eqb-true}
 use Rattle.rule.proofs.Generating.{table_holds, conway_holds}
 use Rattle.rule.proofs.table.of.Goals as goal
 

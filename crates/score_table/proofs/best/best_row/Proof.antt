@@ -8,7 +8,6 @@ use mathlib.Core.Option.{Option, none, some}
 use Prim.Native.Nat.{ℕ, ◌+◌, ◌-◌, ◌^◌, ◌≤◌, ◌<◌}
 use native.Mathlib.Omega.{arith}
 use borrow.Author.Rules.{rules}
-use borrow.Author.Tests.{not-true, not-false}
 use lib.ListN.{length, get_or}
 use Rattle.board.specs.Boards.{max_mirror_width}
 use Rattle.board.specs.Search.{all_below}
@@ -81,40 +80,40 @@ Turns t x j =
 -- the invariant after the turn
 abbrev Done : Turn → Best → Type 0
 Done t held =
-    ((codes_at t).row-codes.result ≡ 2 ^ digits_of (want_of_lem t) (start t).args.w) ×
-    ((codes_at t).row-codes.result ≤ 1024) ×
-    (tried t + 1 ≤ (codes_at t).row-codes.result) ×
+    ((codes_at t).row_codes-n.result ≡ 2 ^ digits_of (want_of_lem t) (start t).args.w) ×
+    ((codes_at t).row_codes-n.result ≤ 1024) ×
+    (tried t + 1 ≤ (codes_at t).row_codes-n.result) ×
     HeldAt t (tried t + 1) held
 
 done : (t : Turn) (held : Best) → HeldAt t (tried t + 1) held → Done t held
-done t held H = ((rows_at t).rows.inv.0, (rows_at t).rows.inv.1, search rules, H)
+done t held H = ((rows_at t).rows.invariant.0, (rows_at t).rows.invariant.1, search rules, H)
 
 -- the row offers nothing
 pass : (t : Turn) → Offer t (tried t) ≡ none → Done t (rows_at t).rows.held
-pass t e = done t _ (held_pass _ _ _ _ _ _ _ _ _ (rows_at t).rows.inv.3 e)
+pass t e = done t _ (held_pass _ _ _ _ _ _ _ _ _ (rows_at t).rows.invariant.3 e)
 
 -- the number that is tried is one of a row, and its row has w cells
 is_number : (t : Turn) → tried t < 2 ^ digits_of (want_of_lem t) (start t).args.w
-is_number t = omega (arith, (rows_at t).rows.inv.0, t.if-n-c.left)
+is_number t = omega (arith, (rows_at t).rows.invariant.0, t.if-n-c.false)
 
 is_row : (t : Turn) (x : ℕ) → x < 2 ^ digits_of (want_of_lem t) (start t).args.w → row_for (want_of_lem t) (start t).args.w x < 2 ^ (start t).args.w
 is_row t x l = row_lt (want_of_lem t).halves (start t).args.w x l
 
 wide : (t : Turn) → (start t).args.w ≤ max_mirror_width
-wide t = width_le _ _ (start t).pre.0
+wide t = width_le _ _ (start t).requires.0
 
 -- the entry that the turn reads is within the table
 room : (t : Turn) → let g = (start t).args in g.first + tried t < length g.table.now
-room t = omega (arith, is_number t, (start t).pre.5)
+room t = omega (arith, is_number t, (start t).requires.5)
 
 -- the column that is tried, and its test
 column : (c : tie.In-loop-j invariant-loop-j decreases-loop-j invariant-rows decreases-rows) →
     let g = (start c.before.before).args in
-    get_or (rows_at c.before.before).before.columns.result c.loop-j.j 0 ≡ column_of g.w (row_for g.want g.w g.a) (row_for g.want g.w g.b) g.t c.loop-j.j
+    get_or (rows_at c.before.before).columns-columns.result c.loop-j.j 0 ≡ column_of g.w (row_for g.want g.w g.a) (row_for g.want g.w g.b) g.t c.loop-j.j
 column c =
     let k = (rows_at c.before.before).before in
-    k.columns.ensures.at c.loop-j.j (omega (arith, c.loop-j-test.true))
-    ∙ ap₂ (λ (x y : ℕ). column_of (start c.before.before).args.w x y (start c.before.before).args.t c.loop-j.j) k.row-for.ensures.0 k.row-for2.ensures.0
+    k.columns-columns.ensures.at c.loop-j.j (omega (arith, c.loop-j-test.true))
+    ∙ ap₂ (λ (x y : ℕ). column_of (start c.before.before).args.w x y (start c.before.before).args.t c.loop-j.j) k.row_for.ensures.0 k.row_for-2.ensures.0
 
 passed : (c : tie.After-passes invariant-loop-j decreases-loop-j invariant-rows decreases-rows) → c.passes.result ≡ Turns c.before.before.before (tried c.before.before.before) c.loop-j.j
 passed c =
@@ -153,8 +152,8 @@ sum c =
     (sym (c.row_worth.ensures.0 ∙ ap (row_worth g.w (marks_of g.want.predecessor g.givens.now) g.at) c.row_for-row.ensures.0))
 
 -- the digits of a row's number
-digits : (t : Turn) → (codes_at t).before.row-digits.result ≡ digits_of (want_of_lem t) (start t).args.w
-digits t = (codes_at t).before.row-digits.ensures
+digits : (t : Turn) → (codes_at t).before.row_digits-bits.result ≡ digits_of (want_of_lem t) (start t).args.w
+digits t = (codes_at t).before.row_digits-bits.ensures
 
 row_digits-bits-requires : tie.Need-row_digits-bits-requires invariant-loop-j decreases-loop-j invariant-rows decreases-rows
 row_digits-bits-requires c κs = search rules
@@ -251,10 +250,10 @@ rows-preserved-then-not-row_kept c =
     pass c.before.before.before.before (offer_barred (want_of_lem c.before.before.before.before) _ _ _ _ _ _ _ _ _ (sym (kept c.before) ∙ c.if-not-row_kept.true))
 
 overflow_add-e : tie.Need-overflow_add-e invariant-loop-j decreases-loop-j invariant-rows decreases-rows
-overflow_add-e c = omega (arith, room c.before.before.before.before, (start c.before.before.before.before).well-formed)
+overflow_add-e c = omega (arith, room c.before.before.before.before, (start c.before.before.before.before).well_formed)
 
 offset_bounds-table-first : tie.Need-offset_bounds-table-first invariant-loop-j decreases-loop-j invariant-rows decreases-rows
-offset_bounds-table-first c = omega (arith, room c.before.before.before.before, (start c.before.before.before.before).well-formed)
+offset_bounds-table-first c = omega (arith, room c.before.before.before.before, (start c.before.before.before.before).well_formed)
 
 bounds-table-first : tie.Need-bounds-table-first invariant-loop-j decreases-loop-j invariant-rows decreases-rows
 bounds-table-first c = room c.before.before.before.before.before

@@ -1,7 +1,6 @@
 -- `score_table::best::consider` meets its contract: its tests are the definition's, in the same order.
 -- Assumes nothing.
 use mathlib.Core.Path.{◌∙◌, sym}
-use borrow.Author.Rules.{rules}
 use Rattle.score_table.proofs.best.consider.Goals as goal
 
 pub returns-then-worse : goal.returns-then-worse

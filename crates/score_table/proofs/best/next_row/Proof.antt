@@ -1,7 +1,6 @@
 -- `score_table::best::next_row` meets its contract: the shifts form the skip's end, which fits.
 -- Assumes nothing.
 use mathlib.Core.Path.{◌≡◌}
-use mathlib.Core.Logic.{⊎_elim}
 use Prim.Native.Nat.{◌+◌, ◌*◌, ◌-◌, ◌/◌, ◌%◌, ◌^◌, ◌≤◌}
 use native.Mathlib.Nat.{mod-eq_of_lt, div-le_self}
 use native.Mathlib.Omega.{arith}
@@ -11,10 +10,15 @@ use Rattle.score_table.proofs.Skipping.{skip_past, skip_within}
 use borrow.Author.Rules.{rules}
 use Rattle.score_table.proofs.best.next_row.Statement.{statement}
 use Rattle.score_table.proofs.best.next_row.Tie as tie
+use Rattle.score_table.proofs.best.next_row.Lts.{then-j-bits, else-j-bits}
 
 -- the shift's width, however it is formed
 shift : (c : tie.After-row_known-1) → c.if-j-bits.s ≡ c.args.bits - (c.args.j + 1)
-shift c = ⊎_elim (λ w. omega arith) (λ w. omega arith) c.if-j-bits.branch
+shift c =
+    elim c.if-j-bits.branch [
+      | then-j-bits w ↦ omega (arith, w.if-j-bits, w.s-is)
+      | else-j-bits w ↦ omega (arith, w.if-j-bits, w.s-is)
+    ]
 
 -- what the shifts compute is the next row
 result : (c : tie.After-row_known-1) →

@@ -2,7 +2,6 @@
 -- Assumes nothing.
 use mathlib.Core.Path.{◌∙◌}
 use native.Mathlib.Omega.{arith}
-use borrow.Author.Rules.{rules}
 use Rattle.board.proofs.Powers.{four_pos, four_le, table_within, table_one}
 use Rattle.score_table.proofs.filling.layer_size.Goals as goal
 

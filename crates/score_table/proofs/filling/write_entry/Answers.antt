@@ -1,6 +1,5 @@
 -- `score_table::filling::write_entry` meets its contract: the place is the entry's, within its layer.
 -- Assumes nothing.
-use borrow.Author.Rules.{rules}
 use Rattle.elimination.specs.Table.{fill_entry}
 use Rattle.score_table.proofs.filling.write_entry.Goals as goal
 

@@ -1,13 +1,8 @@
 -- `score_table::rows::columns` meets its contract. The loop's invariant: the columns passed are written. The measure: the columns left.
 -- Assumes nothing.
-use mathlib.Core.Path.{◌≡◌, ◌∙◌}
-use mathlib.Core.Logic.{⊎_elim}
+use mathlib.Core.Path.{◌≡◌}
 use Prim.Native.Nat.{ℕ, ◌+◌, ◌-◌, ◌≤◌, ◌<◌}
-use native.Mathlib.Nat.{eq-or-lt_of_le}
-use native.Mathlib.Omega.{arith}
-use borrow.Author.Rules.{rules}
-use lib.ListN.{length, get_or, length-set}
-use lib.Seq.{get_or-set_same, get_or-set_other}
+use lib.ListN.{length, get_or}
 use Rattle.board.specs.Boards.{max_mirror_width}
 use Rattle.score_table.specs.Inner.{column_of}
 use Rattle.score_table.proofs.rows.columns.Given as goal

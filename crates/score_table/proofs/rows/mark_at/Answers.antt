@@ -1,6 +1,5 @@
 -- `score_table::rows::mark_at` meets its contract: each arm picks its case.
 -- Assumes nothing.
-use borrow.Author.Rules.{rules}
 use Rattle.score_table.proofs.rows.mark_at.Goals as goal
 
 pub returns-then-target : goal.returns-then-target

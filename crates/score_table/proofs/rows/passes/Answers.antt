@@ -1,6 +1,5 @@
 -- `score_table::rows::passes` meets its contract: the window is the row's below.
 -- Assumes nothing.
-use borrow.Author.Rules.{rules}
 use Rattle.score_table.proofs.rows.passes.Goals as goal
 
 pub returns : goal.returns

@@ -1,6 +1,5 @@
 -- `score_table::rows::row_codes` meets its contract: a shift of 1 is a power of 2, and it fits.
 -- Assumes nothing.
-use borrow.Author.Rules.{rules}
 use Rattle.board.proofs.Powers.{two_le, two_shift}
 use Rattle.score_table.proofs.rows.row_codes.Goals as goal
 

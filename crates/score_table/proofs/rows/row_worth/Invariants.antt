@@ -1,14 +1,11 @@
 -- `score_table::rows::row_worth` meets its contract. The loop's invariant: the sum of what the cells passed earn. The measure: the columns left.
 -- Assumes nothing.
-use mathlib.Core.Path.{◌≡◌, sym}
+use mathlib.Core.Path.{◌≡◌}
 use Prim.Native.Nat.{◌+◌, ◌-◌, ◌≤◌}
-use native.Mathlib.Omega.{arith}
 use lib.ListN.{get_or}
 use Rattle.board.specs.Sums.{total}
-use Rattle.board.proofs.Sums.{total_none, total_more}
 use Rattle.life.specs.Rows.{digit_in}
-use Rattle.score_table.specs.Rows.{cell_worth, row_worth, marks_of}
-use borrow.Author.Rules.{rules}
+use Rattle.score_table.specs.Rows.{cell_worth, marks_of}
 use Rattle.score_table.proofs.rows.row_worth.Given as goal
 
 abbrev pub invariant-loop-k : goal.invariant-loop-k

@@ -6,7 +6,6 @@ use native.Mathlib.Nat.{mod-lt}
 use native.Mathlib.Omega.{arith}
 use lib.Dec.{lit<}
 use lib.Pow.{pow_mono}
-use borrow.Author.Rules.{rules}
 use Rattle.score_table.proofs.rows.window_at.Goals as goal
 
 pub overflow_mul-result : goal.overflow_mul-result

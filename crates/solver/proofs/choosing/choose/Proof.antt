@@ -22,96 +22,76 @@ use Rattle.solver.proofs.choosing.choose.Statement.{statement}
 use Rattle.solver.proofs.choosing.choose.Tie as tie
 
 -- the row's cells are within the board
-cells_room : (b : tie.After-choose-row) → let g = b.before.before.before.before.before.before.args in suc g.r * g.job.width ≤ length g.board.now
+cells_room : (b : tie.After-choose_row) → let g = b.args in suc g.r * g.job.width ≤ length g.board.now
 cells_room b =
-    let g = b.before.before.before.before.before.before.args in
-    let C = b.before.before.before.before.before.before.requires.1 in
+    let g = b.args in
+    let C = b.requires.1 in
     omega (arith, C.lent.cells, row_room g.job.width g.job.height g.r (row_in C).inside)
 
 -- the rule's choice
-abbrev choice : tie.After-choose-row → Choice ℕ
+abbrev choice : tie.After-choose_row → Choice ℕ
 choice b =
-    let g = b.before.before.before.before.before.before.args in
+    let g = b.args in
     let j = g.job in
     choose (grid_rows j.kind j.rule j.width j.height g.givens.now) (j.height - suc g.r) (above_of j.stage) (last_of j.stage)
     (reads (grid_rows j.kind j.rule j.width j.height g.givens.now) g.table.now g.source (last_of j.stage))
 
 -- is what is chosen
-told : (b : tie.After-choose-row) →
-    let g = b.before.before.before.before.before.before.args in
-    b.choose-row.result ≡ picked_of (want_by g.job.kind) g.job.width g.givens.now g.r (choice b)
+told : (b : tie.After-choose_row) →
+    let g = b.args in
+    b.choose_row.result ≡ picked_of (want_by g.job.kind) g.job.width g.givens.now g.r (choice b)
 told b =
-    let s = b.before.before.before.before.before.before in
-    let g = s.args in
-    let F = fits_rows _ s.requires.1.lent.taken in
-    let R = row_in s.requires.1 in
-    rw (b.before.before.numbers.ensures, b.before.want-by.ensures) at b.choose-row.ensures
-    ∙ ap (picked_of (want_by g.job.kind) g.job.width g.givens.now g.r) (picked _ _ s.requires.0 g.job.kind _ _ _ _ (lent_memory s.requires.1.lent) _ _ _ _ R.inside R.layer F.0 F.1)
+    let g = b.args in
+    let F = fits_rows _ b.requires.1.lent.taken in
+    let R = row_in b.requires.1 in
+    rw (b.numbers-t.ensures, b.want_by-want.ensures) at b.choose_row.ensures
+    ∙ ap (picked_of (want_by g.job.kind) g.job.width g.givens.now g.r) (picked _ _ b.requires.0 g.job.kind _ _ _ _ (lent_memory b.requires.1.lent) _ _ _ _ R.inside R.layer F.0 F.1)
 
-numbers-requires : tie.Need-numbers-requires
-numbers-requires c κs = search rules
+numbers-t-requires : tie.Need-numbers-t-requires
+numbers-t-requires c κs = search rules
 
-want-by-requires : tie.Need-want-by-requires
-want-by-requires c κs = search rules
+want_by-want-requires : tie.Need-want_by-want-requires
+want_by-want-requires c κs = search rules
 
-choose-row-requires : tie.Need-choose-row-requires
-choose-row-requires c κs = search rules
+choose_row-requires : tie.Need-choose_row-requires
+choose_row-requires c κs = search rules
 
-enum_told : tie.Need-enum-told
-enum_told c = search rules
+enum_told-1 : tie.Need-enum_told-1
+enum_told-1 c = search rules
 
-returns : tie.Need-returns
-returns c =
-    let b = c.before.before.before in
-    moves_spoiled _ _ _ _ _ _ b.before.before.before.before.before.before.requires.1 c.if1.true
-    (picked_nothing _ _ _ _ (choice b) (sym c.before.enum_told.given.1 ∙ told b))
+returns-then-r-ne0 : tie.Need-returns-then-r-ne0
+returns-then-r-ne0 c =
+    moves_spoiled _ _ _ _ _ _ c.requires.1 c.if-r-ne0.true
+    (picked_nothing (want_by c.args.job.kind) c.args.job.width c.args.givens.now c.args.r (choice c.before.before) (sym c.in-Nothing.is ∙ told c.before.before))
 
 after-requires : tie.Need-after-requires
 after-requires c κs = search rules
 
-enum-known-row : tie.Need-enum-known-row
-enum-known-row c = search rules
+enum_known-row : tie.Need-enum_known-row
+enum_known-row c = search rules
 
-row-digits-requires : tie.Need-row-digits-requires
-row-digits-requires c κs = search rules
+row_digits-requires : tie.Need-row_digits-requires
+row_digits-requires c κs = search rules
 
-write-row-requires : tie.Need-write-row-requires
-write-row-requires c κs = search rules
+write_row-requires : tie.Need-write_row-requires
+write_row-requires c κs = search rules
 
-after-requires-2 : tie.Need-after-requires-2
-after-requires-2 c κs = search rules
+after-requires-in-Row : tie.Need-after-requires-in-Row
+after-requires-in-Row c κs = search rules
 
-returns-2 : tie.Need-returns-2
-returns-2 c =
-    let b = c.before.before.before.before in
-    moves_none _ _ _ _ _ _ b.before.before.before.before.before.before.requires.1 c.before.if1.false
-    (picked_nothing _ _ _ _ (choice b) (sym c.before.before.enum_told.given.1 ∙ told b)) _ c.after.ensures
+returns-else-r-ne0 : tie.Need-returns-else-r-ne0
+returns-else-r-ne0 c =
+    moves_none _ _ _ _ _ _ c.requires.1 c.if-r-ne0.false
+    (picked_nothing (want_by c.args.job.kind) c.args.job.width c.args.givens.now c.args.r (choice c.before.before.before) (sym c.in-Nothing.is ∙ told c.before.before.before)) _ c.after.ensures
 
-same_length : tie.Need-same-length
-same_length c = search rules
+shape_of-board : tie.Need-shape_of-board
+shape_of-board c = search rules
 
-returns-3 : tie.Need-returns-3
-returns-3 c =
-    let d = c.before.before.before in
-    let b = d.before.before.before.before.before.before in
-    let P = picked_row _ _ _ _ (choice b) _ _ (sym d.before.before.before.before.row.given.1 ∙ told b) in
-    let e = rw d.before.before.row-digits.ensures at d.write-row.ensures ∙ writes_inside _ _ _ _ _ (cells_room b) in
-    rw e (moves_row _ _ _ _ _ _ b.before.before.before.before.before.before.requires.1 _ _ P.is _ (rw P.worth at c.after2.ensures))
+returns-in-Row : tie.Need-returns-in-Row
+returns-in-Row c =
+    let P = picked_row (want_by c.args.job.kind) c.args.job.width c.args.givens.now c.args.r (choice c.before.before.before.before.before.before.before) _ _ (sym c.in-Row.is ∙ told c.before.before.before.before.before.before.before) in
+    let e = rw c.row_digits.ensures at c.write_row.ensures ∙ writes_inside _ _ _ _ _ (cells_room c.before.before.before.before.before.before.before) in
+    rw e (moves_row _ _ _ _ _ _ c.requires.1 _ _ P.is _ (rw P.worth at c.after-in-Row.ensures))
 
 pub choose_spec : {M : Type 1} → statement M
-choose_spec =
-    tie.close
-    (tie.spec
-    numbers-requires
-    want-by-requires
-    choose-row-requires
-    enum_told
-    returns
-    after-requires
-    enum-known-row
-    row-digits-requires
-    write-row-requires
-    after-requires-2
-    returns-2
-    same_length
-    returns-3)
+choose_spec = tie.close (tie.spec numbers-t-requires want_by-want-requires choose_row-requires enum_told-1 returns-then-r-ne0 after-requires enum_known-row row_digits-requires write_row-requires after-requires-in-Row returns-else-r-ne0 shape_of-board returns-in-Row)

@@ -19,90 +19,71 @@ use Rattle.solver.proofs.working.check_work.Statement.{statement}
 use Rattle.solver.proofs.working.check_work.Tie as tie
 
 -- what each check that is passed shows
-job_at_lem : (c : tie.After-enum-told) → job_fits c.before.before.before.before.before.before.args.job ≡ true
-job_at_lem c = (paused_numbers _ _ (sym c.before.before.pause.ensures.says ∙ ap paused_says c.enum_told.given.1)).0
+job_at_lem : (c : tie.In_default) → job_fits c.args.job ≡ true
+job_at_lem c = (paused_numbers _ _ (sym c.pause.ensures.says ∙ ap paused_says c.in_default.is)).0
 
 marks_at :
-    (c : tie.After-enum-told2) → let a = c.before.before.before.before.before.before.before.before.before.args in
+    (c : tie.In_default-check_read) → let a = c.args in
     read_check a.job.kind a.job.rule a.job.width a.job.height a.givens.now ≡ passed
-marks_at c = let_through c.before.before.check-read.ensures c.enum-told2.given.1
+marks_at c = let_through c.check_read.ensures c.in_default-check_read.is
 
 board_at :
-    (c : tie.Else1) → let a = c.before.before.before.before.before.before.before.before.before.before.before.args in
+    (c : tie.Else-not-has_length) → let a = c.args in
     eqb (length a.board.now) (a.job.width * a.job.height) ≡ true
-board_at c = sym c.before.has-length.ensures ∙ not-false _ c.if1.false
+board_at c = sym c.has_length.ensures ∙ c.if-not-has_length.false
 
 pause-requires : tie.Need-pause-requires
 pause-requires c κs = search rules
 
-enum-known-r : tie.Need-enum-known-r
-enum-known-r c = search rules
+enum_known-r : tie.Need-enum_known-r
+enum_known-r c = search rules
 
-returns : tie.Need-returns
-returns c = pause_refused _ _ _ _ (sym (ap paused_says c.before.r.given.1) ∙ c.before.before.before.pause.ensures.says)
+returns-in-Refused : tie.Need-returns-in-Refused
+returns-in-Refused c = pause_refused _ _ _ _ (sym (ap paused_says c.in-Refused.is) ∙ c.pause.ensures.says)
 
-enum_told : tie.Need-enum-told
-enum_told c = search rules
+enum_told-1 : tie.Need-enum_told-1
+enum_told-1 c = search rules
 
-check-read-requires : tie.Need-check-read-requires
-check-read-requires c κs = search rules
+check_read-requires : tie.Need-check_read-requires
+check_read-requires c κs = search rules
 
-enum-known-r-2 : tie.Need-enum-known-r-2
-enum-known-r-2 c = search rules
+enum_known-r-in-Refused-check_read : tie.Need-enum_known-r-in-Refused-check_read
+enum_known-r-in-Refused-check_read c = search rules
 
-returns-2 : tie.Need-returns-2
+returns-in-Refused-check_read : tie.Need-returns-in-Refused-check_read
 unfolding work_check lent_check
-returns-2 c =
-    let d = c.before.before.before in
-    rw (job_at_lem d.before) (turned_away_lem d.check-read.ensures c.before.r2.given.1 _)
+returns-in-Refused-check_read c =
+    rw (job_at_lem c.before.before.before) (turned_away_lem c.check_read.ensures c.in-Refused-check_read.is _)
 
-enum-told-2 : tie.Need-enum-told-2
-enum-told-2 c = search rules
+enum_told-in_default-check_read : tie.Need-enum_told-in_default-check_read
+enum_told-in_default-check_read c = search rules
 
-has-length-requires : tie.Need-has-length-requires
-has-length-requires c κs = search rules
+has_length-requires : tie.Need-has_length-requires
+has_length-requires c κs = search rules
 
-returns-3 : tie.Need-returns-3
+returns-then-not-has_length : tie.Need-returns-then-not-has_length
 unfolding work_check lent_check
-returns-3 c =
-    let d = c.before.before in
-    simp (job_at_lem d.before.before.before, marks_at d, sym c.before.has-length.ensures ∙ not-true _ c.if1.true)
+returns-then-not-has_length c =
+    simp (job_at_lem c.before.before.before.before.before, marks_at c.before.before, sym c.has_length.ensures ∙ c.if-not-has_length.true)
 
-row-digits-requires : tie.Need-row-digits-requires
-row-digits-requires c κs = search rules
+row_digits-requires : tie.Need-row_digits-requires
+row_digits-requires c κs = search rules
 
 layers-requires : tie.Need-layers-requires
 layers-requires c κs = search rules
 
-check-table-requires : tie.Need-check-table-requires
-check-table-requires c κs = search rules
+check_table-requires : tie.Need-check_table-requires
+check_table-requires c κs = search rules
 
-returns-4 : tie.Need-returns-4
+returns : tie.Need-returns
 unfolding work_check lent_check
-returns-4 c =
-    let d = c.before.before.before in
+returns c =
     simp (
-      job_at_lem d.before.before.before.before.before,
-      marks_at d.before.before,
-      board_at d,
-      rw (c.before.layers.ensures, c.before.before.row-digits.ensures) at c.check-table.ensures,
+      job_at_lem c.before.before.before.before.before.before.before.before,
+      marks_at c.before.before.before.before.before,
+      board_at c.before.before.before,
+      rw (c.layers.ensures, c.row_digits.ensures) at c.check_table.ensures,
     )
 
-pub check-work-spec : {M : Type 1} → statement M
-check-work-spec =
-    tie.close
-    (tie.spec
-    pause-requires
-    enum-known-r
-    returns
-    enum_told
-    check-read-requires
-    enum-known-r-2
-    returns-2
-    enum-told-2
-    has-length-requires
-    returns-3
-    row-digits-requires
-    layers-requires
-    check-table-requires
-    returns-4)
+pub check_work_spec : {M : Type 1} → statement M
+check_work_spec = tie.close (tie.spec pause-requires enum_known-r returns-in-Refused enum_told-1 check_read-requires enum_known-r-in-Refused-check_read returns-in-Refused-check_read enum_told-in_default-check_read has_length-requires returns-then-not-has_length row_digits-requires layers-requires check_table-requires returns)

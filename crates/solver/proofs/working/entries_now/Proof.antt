@@ -8,20 +8,20 @@ use Rattle.board.proofs.Powers.{table_within, table_one}
 use Rattle.solver.proofs.working.entries_now.Statement.{statement}
 use Rattle.solver.proofs.working.entries_now.Tie as tie
 
-layer : (c : tie.After-table-size) → c.table-size.result ≡ 4 ^ c.before.args.digits
-layer c = c.table-size.ensures ∙ table_within c.before.requires.0 (omega arith) ∙ table_one _
+layer : (c : tie.After-table_size) → c.table_size.result ≡ 4 ^ c.args.digits
+layer c = c.table_size.ensures ∙ table_within c.requires.0 (omega arith) ∙ table_one _
 
-table-size-requires : tie.Need-table-size-requires
-table-size-requires c κs = search rules
+table_size-requires : tie.Need-table_size-requires
+table_size-requires c κs = search rules
 
-sub-rest : tie.Need-overflow-sub-rest
-sub-rest c = omega (arith, layer c, c.before.requires.1)
+overflow_sub-rest : tie.Need-overflow_sub-rest
+overflow_sub-rest c = omega (arith, layer c, c.requires.1)
 
-returns : tie.Need-returns
-returns c = omega (arith, layer c.before, c.if1.true)
+returns-then-rest-left : tie.Need-returns-then-rest-left
+returns-then-rest-left c = omega (arith, layer c.before, c.if-rest-left.true)
 
-returns-2 : tie.Need-returns-2
-returns-2 c = omega (arith, layer c.before, c.if1.false)
+returns-else-rest-left : tie.Need-returns-else-rest-left
+returns-else-rest-left c = omega (arith, layer c.before, c.if-rest-left.false)
 
-pub entries-now-spec : {M : Type 1} → statement M
-entries-now-spec = tie.close (tie.spec table-size-requires sub-rest returns returns-2)
+pub entries_now_spec : {M : Type 1} → statement M
+entries_now_spec = tie.close (tie.spec table_size-requires overflow_sub-rest returns-then-rest-left returns-else-rest-left)

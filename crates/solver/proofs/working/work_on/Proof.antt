@@ -21,186 +21,146 @@ use borrow.Author.Rules.{rules}
 use Rattle.solver.proofs.working.work_on.Statement.{statement}
 use Rattle.solver.proofs.working.work_on.Tie as tie
 
-abbrev invariant-loop : tie.invariant-loop
-invariant-loop givens table₀ board₀ allowance next job₀ left₀ table board job left =
+abbrev invariant-loop-left : tie.invariant-loop-left
+invariant-loop-left givens table₀ board₀ allowance next job₀ left₀ table board job left =
     (works_on grid givens left (lent_state job table board) ≡ works_on grid givens allowance (lent_state job₀ table₀ board₀)) ×
     (length table ≡ length table₀) ×
     (length board ≡ length board₀) ×
     Lent job givens table board ×
     Holds (next_under job.rule) next
 
-abbrev decreases-loop : tie.decreases-loop
-decreases-loop givens table₀ board₀ allowance next job₀ left₀ table board job left = left
-
-of-requires : tie.Need-of-requires invariant-loop decreases-loop
-of-requires c κs = search rules
-
-loop-holds : tie.Need-loop-init invariant-loop decreases-loop
-loop-holds c = (refl, refl, refl, c.before.before.before.before.before.requires, c.of.ensures)
-
-task-requires : tie.Need-task-requires invariant-loop decreases-loop
-task-requires c κs = search rules
-
-enum-known-after : tie.Need-enum-known-after invariant-loop decreases-loop
-enum-known-after c = search rules
+abbrev decreases-loop-left : tie.decreases-loop-left
+decreases-loop-left givens table₀ board₀ allowance next job₀ left₀ table board job left = left
 
 -- the next unit fills an entry
-fills : (c : tie.After-known-told invariant-loop decreases-loop) →
-    let l = c.before.before.before.before.before.loop in
-    let x = c.before.after.given.0 in
-    Due l.job (fill x.0 x.1.0 x.1.1.0 x.1.1.1.0)
-fills c = due_at _ _ (sym c.before.before.before.task.ensures ∙ ap task_of c.before.after.given.1)
+fills : (c : tie.In-Fill invariant-loop-left decreases-loop-left) →
+    let l = c.loop-left in
+    let x = c.in-Fill in
+    Due l.job (fill x.after x.source x.target x.entry)
+fills c = due_at _ _ (sym c.task.ensures ∙ ap task_of c.in-Fill.is)
 
 -- so many entries: the layer has them, the allowance has units for them, and there is one at least
-counted : (c : tie.After-entries-now invariant-loop decreases-loop) →
-    let l = c.before.before.before.before.before.before.before.loop in
-    let m = c.entries-now.result in
-    (c.before.before.before.after.given.0.1.1.1.0 + m ≤ 4 ^ kind_digits l.job.kind l.job.width) × (m ≤ l.left) × (0 < m)
+counted : (c : tie.After-entries_now-count invariant-loop-left decreases-loop-left) →
+    let l = c.loop-left in
+    let m = c.entries_now-count.result in
+    (c.in-Fill.entry + m ≤ 4 ^ kind_digits l.job.kind l.job.width) × (m ≤ l.left) × (0 < m)
 counted c =
-    let t = c.before.before.before.before.before.before in
     let D = fills c.before.before in
-    let E = (lent_entry t.before.loop.invariant.3 D.running D.plans).1 in
-    let e = rw c.before.row-digits.ensures at c.entries-now.ensures in
-    (omega (arith, e, E), omega (arith, e), omega (arith, e, E, t.loop-test.false))
+    let E = (lent_entry c.loop-left.invariant.3 D.running D.plans).1 in
+    let e = rw c.row_digits.ensures at c.entries_now-count.ensures in
+    (omega (arith, e, E), omega (arith, e), omega (arith, e, E, c.if-left-eq0.false))
 
-row-digits-requires : tie.Need-row-digits-requires invariant-loop decreases-loop
-row-digits-requires c κs = search rules
+of-next-requires : tie.Need-of-next-requires invariant-loop-left decreases-loop-left
+of-next-requires c κs = search rules
 
-entries-now-requires : tie.Need-entries-now-requires invariant-loop decreases-loop
-entries-now-requires c κs =
-    let k = c.before in
-    let D = fills k in
-    rw c.row-digits.ensures (lent_entry k.before.before.before.before.before.loop.invariant.3 D.running D.plans)
+loop-left-init : tie.Need-loop-left-init invariant-loop-left decreases-loop-left
+loop-left-init c = (refl, refl, refl, c.requires, c.of-next.ensures)
 
-want-by-requires : tie.Need-want-by-requires invariant-loop decreases-loop
-want-by-requires c κs = search rules
+task-requires : tie.Need-task-requires invariant-loop-left decreases-loop-left
+task-requires c κs = search rules
 
-fill-requires : tie.Need-fill-requires invariant-loop decreases-loop
+enum_known-after : tie.Need-enum_known-after invariant-loop-left decreases-loop-left
+enum_known-after c = search rules
+
+row_digits-requires : tie.Need-row_digits-requires invariant-loop-left decreases-loop-left
+row_digits-requires c κs = search rules
+
+entries_now-count-requires : tie.Need-entries_now-count-requires invariant-loop-left decreases-loop-left
+entries_now-count-requires c κs =
+    let D = fills c.before in
+    rw c.row_digits.ensures (lent_entry c.loop-left.invariant.3 D.running D.plans)
+
+want_by-want-requires : tie.Need-want_by-want-requires invariant-loop-left decreases-loop-left
+want_by-want-requires c κs = search rules
+
+fill-requires : tie.Need-fill-requires invariant-loop-left decreases-loop-left
 fill-requires c κs = search rules
 
-after-entries-requires : tie.Need-after-entries-requires invariant-loop decreases-loop
-after-entries-requires c κs = search rules
+after_entries-job-requires : tie.Need-after_entries-job-requires invariant-loop-left decreases-loop-left
+after_entries-job-requires c κs = search rules
 
-sub-left : tie.Need-overflow-sub-left invariant-loop decreases-loop
-sub-left c = (counted c.before.before.before.before.before.before.before).1
+overflow_sub-left : tie.Need-overflow_sub-left invariant-loop-left decreases-loop-left
+overflow_sub-left c = (counted c.before.before.before.before.before.before.before).1
 
-loop-less : tie.Need-loop-smaller invariant-loop decreases-loop
-loop-less c = let N = counted c.before.before.before.before.before.before.before in omega (arith, N.1, N.2)
+loop-left-smaller-in-Fill : tie.Need-loop-left-smaller-in-Fill invariant-loop-left decreases-loop-left
+loop-left-smaller-in-Fill c = let N = counted c.before.before.before.before.before.before.before in omega (arith, N.1, N.2)
 
-loop-again : tie.Need-loop-preserved invariant-loop decreases-loop
-loop-again c =
-    let f = c.before.before.before in
-    let n = f.before.before.before.before in
-    let l = n.before.before.before.before.before.before.before.loop in
-    let D = fills n.before.before in
-    let N = counted n in
+loop-left-preserved-in-Fill : tie.Need-loop-left-preserved-in-Fill invariant-loop-left decreases-loop-left
+loop-left-preserved-in-Fill c =
+    let l = c.loop-left in
+    let D = fills c.before.before.before.before.before.before.before.before.before in
+    let N = counted c.before.before.before.before.before.before.before in
     let R = lent_read l.invariant.3 D.running D.plans _ N.0 in
-    let O = onward_filled _ _ _ _ l.invariant.3 D.running _ _ _ _ D.plans _ N.0 _ c.after-entries.ensures _
-    (rw f.before.before.before.want-by.ensures at f.fill.ensures ∙ filled _ _ l.invariant.4 l.job.kind _ _ _ _ _ _ _ _ _ R.0 R.1) _ N.1 in (
+    let O = onward_filled _ _ _ _ l.invariant.3 D.running _ _ _ _ D.plans _ N.0 _ c.after_entries-job.ensures _
+    (rw c.want_by-want.ensures at c.fill.ensures ∙ filled _ _ l.invariant.4 l.job.kind _ _ _ _ _ _ _ _ _ R.0 R.1) _ N.1 in (
       O.works ∙ l.invariant.0,
-      f.fill.auto.1.1.1.1.1.1.1.1.1.1.0 ∙ l.invariant.1,
+      c.fill.auto.table ∙ l.invariant.1,
       l.invariant.2,
       O.lent,
       rw O.rule l.invariant.4,
     )
 
-enum-known-row : tie.Need-enum-known-row invariant-loop decreases-loop
-enum-known-row c = search rules
+enum_known-row : tie.Need-enum_known-row invariant-loop-left decreases-loop-left
+enum_known-row c = search rules
 
-choose-requires : tie.Need-choose-requires invariant-loop decreases-loop
+choose-requires : tie.Need-choose-requires invariant-loop-left decreases-loop-left
 choose-requires c κs =
-    let d = c.before.before.before.before in
-    let l = d.before.before.before.before.loop in
-    let D = due_at _ _ (sym d.before.before.task.ensures ∙ ap task_of d.row.given.1) in
+    let l = c.loop-left in
+    let D = due_at _ _ (sym c.task.ensures ∙ ap task_of c.in-Choose.is) in
     (l.invariant.4, record { lent = l.invariant.3; running = D.running; task = D.plans })
 
-enum-known-j : tie.Need-enum-known-j invariant-loop decreases-loop
-enum-known-j c = search rules
+enum_known-j : tie.Need-enum_known-j invariant-loop-left decreases-loop-left
+enum_known-j c = search rules
 
-enum_told : tie.Need-enum-told invariant-loop decreases-loop
-enum_told c = search rules
+enum_told-1 : tie.Need-enum_told-1 invariant-loop-left decreases-loop-left
+enum_told-1 c = search rules
 
-same_length : tie.Need-same-length invariant-loop decreases-loop
-same_length c = search rules
+shape_of-table-in-Spoiled : tie.Need-shape_of-table-in-Spoiled invariant-loop-left decreases-loop-left
+shape_of-table-in-Spoiled c = search rules
 
-same-length-2 : tie.Need-same-length-2 invariant-loop decreases-loop
-same-length-2 c = search rules
+shape_of-board-in-Spoiled : tie.Need-shape_of-board-in-Spoiled invariant-loop-left decreases-loop-left
+shape_of-board-in-Spoiled c = search rules
 
-returns : tie.Need-returns invariant-loop decreases-loop
-returns c =
-    let u = c.before.before.before.before in
-    let t = u.before.before.before.before.before.before.before.before in
-    works_turned _ _ _ _ _ _ _ u.choose.ensures c.enum_told.given.1 _ t.loop-test.false ∙ t.before.loop.invariant.0
+returns-in-Spoiled : tie.Need-returns-in-Spoiled invariant-loop-left decreases-loop-left
+returns-in-Spoiled c =
+    works_turned _ _ _ _ _ _ _ c.choose.ensures c.in-Spoiled.is _ c.if-left-eq0.false ∙ c.loop-left.invariant.0
 
-sub-left-2 : tie.Need-overflow-sub-left-2 invariant-loop decreases-loop
-sub-left-2 c = search rules
+overflow_sub-left-in-Choose : tie.Need-overflow_sub-left-in-Choose invariant-loop-left decreases-loop-left
+overflow_sub-left-in-Choose c = search rules
 
-loop-less-2 : tie.Need-loop-smaller-2 invariant-loop decreases-loop
-loop-less-2 c = search rules
+loop-left-smaller : tie.Need-loop-left-smaller invariant-loop-left decreases-loop-left
+loop-left-smaller c = search rules
 
-loop-again-2 : tie.Need-loop-preserved-2 invariant-loop decreases-loop
-loop-again-2 c =
-    let u = c.before.before.before.before.before in
-    let t = u.before.before.before.before.before.before.before.before in
-    let l = t.before.loop in
-    let O = onward_moved _ _ _ _ _ _ _ u.choose.ensures _ c.before.j.given.1 l.invariant.3 _ t.loop-test.false in (
+loop-left-preserved : tie.Need-loop-left-preserved invariant-loop-left decreases-loop-left
+loop-left-preserved c =
+    let l = c.loop-left in
+    let O = onward_moved _ _ _ _ _ _ _ c.choose.ensures _ c.in-Next.is l.invariant.3 _ c.if-left-eq0.false in (
       O.works ∙ l.invariant.0,
       l.invariant.1,
-      u.choose.auto.1.1.1.1.1.1.0 ∙ l.invariant.2,
+      c.choose.auto.board ∙ l.invariant.2,
       O.lent,
       rw O.rule l.invariant.4,
     )
 
-enum-told-2 : tie.Need-enum-told-2 invariant-loop decreases-loop
-enum-told-2 c = search rules
+enum_told-in-Nothing : tie.Need-enum_told-in-Nothing invariant-loop-left decreases-loop-left
+enum_told-in-Nothing c = search rules
 
-status-of-requires : tie.Need-status-of-requires invariant-loop decreases-loop
-status-of-requires c κs = search rules
+status_of-status-requires : tie.Need-status_of-status-requires invariant-loop-left decreases-loop-left
+status_of-status-requires c κs = search rules
 
-same-length-3 : tie.Need-same-length-3 invariant-loop decreases-loop
-same-length-3 c = let e = c.before.before.loop.invariant.1 in search rules
+shape_of-table : tie.Need-shape_of-table invariant-loop-left decreases-loop-left
+shape_of-table c = let e = c.loop-left.invariant.1 in search rules
 
-same-length-4 : tie.Need-same-length-4 invariant-loop decreases-loop
-same-length-4 c = let e = c.before.before.loop.invariant.2 in search rules
+shape_of-board : tie.Need-shape_of-board invariant-loop-left decreases-loop-left
+shape_of-board c = let e = c.loop-left.invariant.2 in search rules
 
-returns-2 : tie.Need-returns-2 invariant-loop decreases-loop
-returns-2 c =
-    let l = c.before.before.loop in
-    ⊎_elim (λ x. works_spent _ _ _ _ _ c.status-of.ensures _ x.taken)
-    (λ x. works_over _ _ _ _ l.invariant.3.taken (sym x.1.ensures ∙ ap task_of x.3.given.1) _ c.status-of.ensures _)
-    c.before.loop-test.branch
+returns : tie.Need-returns invariant-loop-left decreases-loop-left
+returns c =
+    let l = c.loop-left in
+    ⊎_elim (λ x. works_spent _ _ _ _ _ c.status_of-status.ensures _ x.if-left-eq0.true)
+    (λ x. works_over _ _ _ _ l.invariant.3.taken (sym x.task.ensures ∙ ap task_of x.in-Nothing.is) _ c.status_of-status.ensures _)
+    c.if-left-eq0.branch-raw
     ∙ l.invariant.0
 
-pub work-on-spec : {M : Type 1} → statement M
-work-on-spec =
-    tie.close
-    (tie.spec
-    invariant-loop
-    decreases-loop
-    of-requires
-    loop-holds
-    task-requires
-    enum-known-after
-    row-digits-requires
-    entries-now-requires
-    want-by-requires
-    fill-requires
-    after-entries-requires
-    sub-left
-    loop-less
-    loop-again
-    enum-known-row
-    choose-requires
-    enum-known-j
-    enum_told
-    same_length
-    same-length-2
-    returns
-    sub-left-2
-    loop-less-2
-    loop-again-2
-    enum-told-2
-    status-of-requires
-    same-length-3
-    same-length-4
-    returns-2)
+pub work_on_spec : {M : Type 1} → statement M
+work_on_spec = tie.close (tie.spec invariant-loop-left decreases-loop-left of-next-requires loop-left-init task-requires enum_known-after row_digits-requires entries_now-count-requires want_by-want-requires fill-requires after_entries-job-requires overflow_sub-left loop-left-smaller-in-Fill loop-left-preserved-in-Fill enum_known-row choose-requires enum_known-j enum_told-1 shape_of-table-in-Spoiled shape_of-board-in-Spoiled returns-in-Spoiled overflow_sub-left-in-Choose loop-left-smaller loop-left-preserved enum_told-in-Nothing status_of-status-requires shape_of-table shape_of-board returns)

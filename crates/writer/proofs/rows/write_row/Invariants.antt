@@ -1,15 +1,11 @@
 -- `writer::rows::write_row` meets its contract. The loop's invariant: the first k letters are written over the text. The measure: the
 -- letters left.
 -- Assumes nothing.
-use mathlib.Core.Path.{◌≡◌, refl, sym, ◌∙◌}
-use Prim.Native.Nat.{◌+◌, ◌-◌, ◌≤◌}
-use native.Mathlib.Omega.{arith}
-use borrow.Author.Rules.{rules}
-use lib.ListN.{length, set, length-set, get_or}
-use Rattle.writer.specs.Letters.{LF}
+use mathlib.Core.Path.{◌≡◌}
+use Prim.Native.Nat.{◌-◌, ◌≤◌}
+use lib.ListN.{length}
 use Rattle.writer.specs.Writing.{row_text}
-use Rattle.writer.proofs.Over.{over, over_more, over_all}
-use Rattle.writer.proofs.BoardRows.{text_long, text_letter, text_end}
+use Rattle.writer.proofs.Over.{over}
 use Rattle.writer.proofs.rows.write_row.Given as goal
 
 abbrev pub invariant-loop-k : goal.invariant-loop-k

@@ -35,16 +35,16 @@ loop-j-init : tie.Need-loop-j-init invariant-loop-j decreases-loop-j
 loop-j-init c = (search rules, rw (zero-mul (c.args.w + 1)), refl)
 
 overflow_mul-from : tie.Need-overflow_mul-from invariant-loop-j decreases-loop-j
-overflow_mul-from c = let r = room (c) in omega arith
+overflow_mul-from c = let r = room c in omega arith
 
 overflow_add-to : tie.Need-overflow_add-to invariant-loop-j decreases-loop-j
 overflow_add-to c = search rules
 
 overflow_mul-to : tie.Need-overflow_mul-to invariant-loop-j decreases-loop-j
-overflow_mul-to c = let r = room (c) in omega arith
+overflow_mul-to c = let r = room c in omega arith
 
 overflow_add-from : tie.Need-overflow_add-from invariant-loop-j decreases-loop-j
-overflow_add-from c = let r = room (c) in omega arith
+overflow_add-from c = let r = room c in omega arith
 
 slice_bounds-write_row-count : tie.Need-slice_bounds-write_row-count invariant-loop-j decreases-loop-j
 slice_bounds-write_row-count c = search rules
@@ -53,7 +53,7 @@ slice_bounds-write_row-start : tie.Need-slice_bounds-write_row-start invariant-l
 slice_bounds-write_row-start c = search rules
 
 slice_bounds-write_row-end : tie.Need-slice_bounds-write_row-end invariant-loop-j decreases-loop-j
-slice_bounds-write_row-end c = let r = room (c) in omega arith
+slice_bounds-write_row-end c = let r = room c in omega arith
 
 slice_bounds-write_row-count-in-loop-j : tie.Need-slice_bounds-write_row-count-in-loop-j invariant-loop-j decreases-loop-j
 slice_bounds-write_row-count-in-loop-j c = let r = room c.before in omega arith
@@ -87,7 +87,7 @@ loop-j-preserved c =
     let k = l.j * (c.args.w + 1) in (
       search rules,
       row_written c.args.w c.args.h _ c.requires.2 _ _ _ l.j (omega arith) l.invariant.1 r.ensures,
-      same_len_mid k (length l.text-1 - k) l.text-1 r.new.1.0 r.auto.1.0 ∙ l.invariant.2,
+      same_len_mid k (length l.text - k) l.text r.new.text r.auto.text ∙ l.invariant.2,
     )
 
 shape_of-text : tie.Need-shape_of-text invariant-loop-j decreases-loop-j

@@ -1,0 +1,15 @@
+-- `puzzle::give_live` meets its contract. The loop's invariant: the first i givens are written over the cells. The measure: the cells left.
+-- Assumes nothing.
+use mathlib.Core.Path.{◌≡◌}
+use mathlib.Core.List.{map}
+use Prim.Native.Nat.{◌-◌, ◌≤◌}
+use lib.ListN.{length}
+use Rattle.writer.proofs.Over.{over}
+use Rattle.puzzle.specs.Texts.{given_of}
+use Rattle.puzzle.proofs.give_live.Given as goal
+
+abbrev pub invariant-loop-i : goal.invariant-loop-i
+invariant-loop-i l = (l.i ≤ l.i-end) × (l.cells ≡ over (map given_of l.initial.cells) l.i l.initial.cells) × (length l.cells ≡ length l.initial.cells)
+
+abbrev pub decreases-loop-i : goal.decreases-loop-i
+decreases-loop-i l = l.i-end - l.i
