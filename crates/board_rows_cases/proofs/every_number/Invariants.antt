@@ -1,6 +1,6 @@
 -- `board_rows_cases::every_number` is safe and ends: the binary digits rise to their end.
 -- Assumes nothing.
-use Rattle.std.proofs.Common.{◌-◌, ◌≤◌, rules}
+use Rattle.std.proofs.Common.{◌-◌, ◌≤◌}
 use Rattle.board_rows_cases.proofs.every_number.Given as goal
 
 abbrev pub invariant-loop-bits : goal.invariant-loop-bits

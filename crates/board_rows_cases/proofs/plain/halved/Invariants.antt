@@ -1,6 +1,6 @@
 -- `board_rows_cases::plain::halved` is safe and ends: the counter rises to its end.
 -- Assumes nothing.
-use Rattle.std.proofs.Common.{◌-◌, ◌≤◌, rules}
+use Rattle.std.proofs.Common.{◌-◌, ◌≤◌}
 use Rattle.board_rows_cases.proofs.plain.halved.Given as goal
 
 abbrev pub invariant-loop : goal.invariant-loop

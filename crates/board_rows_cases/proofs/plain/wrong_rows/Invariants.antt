@@ -1,6 +1,6 @@
 -- `board_rows_cases::plain::wrong_rows` is safe and ends: the row rises to its end.
 -- Assumes nothing.
-use Rattle.std.proofs.Common.{◌-◌, ◌≤◌, rules}
+use Rattle.std.proofs.Common.{◌-◌, ◌≤◌}
 use Rattle.board_rows_cases.proofs.plain.wrong_rows.Given as goal
 
 abbrev pub invariant-loop-r : goal.invariant-loop-r

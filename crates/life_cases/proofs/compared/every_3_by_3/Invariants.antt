@@ -1,6 +1,6 @@
 -- `life_cases::compared::every_3_by_3` is safe and ends: the number rises to its end.
 -- Assumes nothing.
-use Rattle.std.proofs.Common.{◌-◌, ◌≤◌, rules}
+use Rattle.std.proofs.Common.{◌-◌, ◌≤◌}
 use Rattle.life_cases.proofs.compared.every_3_by_3.Given as goal
 
 abbrev pub invariant-loop-number : goal.invariant-loop-number

@@ -1,6 +1,6 @@
 -- `life_cases::compared::random_rules` is safe and ends: the counter rises to its end.
 -- Assumes nothing.
-use Rattle.std.proofs.Common.{◌-◌, ◌≤◌, rules}
+use Rattle.std.proofs.Common.{◌-◌, ◌≤◌}
 use Rattle.life_cases.proofs.compared.random_rules.Given as goal
 
 abbrev pub invariant-loop-k : goal.invariant-loop-k

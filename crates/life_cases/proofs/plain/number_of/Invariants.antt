@@ -1,6 +1,6 @@
 -- `life_cases::plain::number_of` is safe and ends: the count rises to its end.
 -- Assumes nothing.
-use Rattle.std.proofs.Common.{◌-◌, ◌≤◌, rules}
+use Rattle.std.proofs.Common.{◌-◌, ◌≤◌}
 use Rattle.life_cases.proofs.plain.number_of.Given as goal
 
 abbrev pub invariant-loop-n : goal.invariant-loop-n

@@ -1,6 +1,6 @@
 -- `life_cases::plain::other_than` is safe and ends: the place rises to its end.
 -- Assumes nothing.
-use Rattle.std.proofs.Common.{◌-◌, ◌≤◌, length, rules}
+use Rattle.std.proofs.Common.{◌-◌, ◌≤◌, length}
 use Rattle.life_cases.proofs.plain.other_than.Given as goal
 
 abbrev pub invariant-loop-k : goal.invariant-loop-k

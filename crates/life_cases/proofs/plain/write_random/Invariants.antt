@@ -1,6 +1,6 @@
 -- `life_cases::plain::write_random` is safe and ends: the place rises to the length.
 -- Assumes nothing.
-use Rattle.std.proofs.Common.{◌≡◌, ◌-◌, ◌^◌, ◌<◌, ◌≤◌, length, rules}
+use Rattle.std.proofs.Common.{◌≡◌, ◌-◌, ◌^◌, ◌<◌, ◌≤◌, length}
 use Rattle.life_cases.proofs.plain.write_random.Given as goal
 
 abbrev pub invariant-loop-k : goal.invariant-loop-k

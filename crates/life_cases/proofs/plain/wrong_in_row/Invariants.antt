@@ -1,6 +1,6 @@
 -- `life_cases::plain::wrong_in_row` is safe and ends: the column rises to its end.
 -- Assumes nothing.
-use Rattle.std.proofs.Common.{◌-◌, ◌≤◌, rules}
+use Rattle.std.proofs.Common.{◌-◌, ◌≤◌}
 use Rattle.life_cases.proofs.plain.wrong_in_row.Given as goal
 
 abbrev pub invariant-loop-c : goal.invariant-loop-c

@@ -1,6 +1,6 @@
 -- `life_cases::plain::wrong_verdict` is safe and ends: the row rises to its end.
 -- Assumes nothing.
-use Rattle.std.proofs.Common.{◌-◌, ◌≤◌, rules}
+use Rattle.std.proofs.Common.{◌-◌, ◌≤◌}
 use Rattle.life_cases.proofs.plain.wrong_verdict.Given as goal
 
 abbrev pub invariant-loop-r : goal.invariant-loop-r

@@ -1,6 +1,6 @@
 -- `life_cases::tables::cases` is safe and ends: the pattern rises to its end.
 -- Assumes nothing.
-use Rattle.std.proofs.Common.{◌-◌, ◌≤◌, rules}
+use Rattle.std.proofs.Common.{◌-◌, ◌≤◌}
 use Rattle.life_cases.proofs.tables.cases.Given as goal
 
 abbrev pub invariant-loop-p : goal.invariant-loop-p

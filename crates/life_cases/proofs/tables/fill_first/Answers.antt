@@ -1,6 +1,6 @@
 -- `life_cases::tables::fill_first` is safe: the part lent has its length.
 -- Assumes nothing.
-use Rattle.std.proofs.Common.{sym, length-take-le, rules}
+use Rattle.std.proofs.Common.{sym, length-take-le}
 use Rattle.life_cases.proofs.tables.fill_first.Goals as goal
 
 pub slice_bounds-generate-end-then-n-table : goal.slice_bounds-generate-end-then-n-table

@@ -1,6 +1,6 @@
 -- `life_cases::tables::random_rules` is safe and ends: the counter rises to its end.
 -- Assumes nothing.
-use Rattle.std.proofs.Common.{◌-◌, ◌≤◌, rules}
+use Rattle.std.proofs.Common.{◌-◌, ◌≤◌}
 use Rattle.life_cases.proofs.tables.random_rules.Given as goal
 
 abbrev pub invariant-loop : goal.invariant-loop
