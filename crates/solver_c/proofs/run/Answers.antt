@@ -1,20 +1,9 @@
 -- `solver_c::run` meets its contract. The loop's invariant: the last answer, the job, the table and the board are those of k calls.
 -- Assumes nothing.
 use mathlib.Core.Path.{◌≡◌, refl, ◌∙◌}
-use mathlib.Core.List.{List}
-use Prim.Native.Nat.{ℕ, ◌-◌, ◌≤◌}
 use native.Mathlib.Omega.{arith}
-use borrow.Author.Rules.{rules}
-use lib.ListN.{length}
-use Rattle.job.specs.declared.Job.{Job}
-use Rattle.solver.specs.Working.{status_says}
-use Rattle.solver.specs.Calls.{Result}
-use Rattle.third_demand.specs.Lent.{lent_state}
-use Rattle.solver.specs.declared.Status.{Status}
-use Rattle.solver_c.specs.InCalls.{calls_of}
 use Rattle.solver_c.proofs.InCalls.{calls_none, calls_more, calls_made}
 use Rattle.solver_c.proofs.run.Goals as goal
-use Rattle.solver_c.proofs.run.Invariants.{now}
 
 pub loop-k-init : goal.loop-k-init
 loop-k-init c = (calls_none _ _ _, omega arith, refl, refl)

@@ -1,10 +1,8 @@
 -- `solver_c::run` meets its contract. The loop's invariant: the last answer, the job, the table and the board are those of k calls.
 -- Assumes nothing.
-use mathlib.Core.Path.{◌≡◌, refl, ◌∙◌}
+use mathlib.Core.Path.{◌≡◌}
 use mathlib.Core.List.{List}
 use Prim.Native.Nat.{ℕ, ◌-◌, ◌≤◌}
-use native.Mathlib.Omega.{arith}
-use borrow.Author.Rules.{rules}
 use lib.ListN.{length}
 use Rattle.job.specs.declared.Job.{Job}
 use Rattle.solver.specs.Working.{status_says}
@@ -12,7 +10,6 @@ use Rattle.solver.specs.Calls.{Result}
 use Rattle.third_demand.specs.Lent.{lent_state}
 use Rattle.solver.specs.declared.Status.{Status}
 use Rattle.solver_c.specs.InCalls.{calls_of}
-use Rattle.solver_c.proofs.InCalls.{calls_none, calls_more, calls_made}
 use Rattle.solver_c.proofs.run.Given as goal
 
 abbrev pub now : Job → Status → List ℕ → List ℕ → Result
