@@ -3,7 +3,7 @@ use crate::calls::After;
 use crate::pieces::Pieces;
 use crate::plain::Best;
 use crate::sizes::Size;
-use crate::{calls, edges, marks, memory, pieces, plain, random, rules, sizes};
+use crate::{calls, edge_threes, marks, memory, pieces, plain, random, rules, sizes};
 use job_kind::Kind;
 use rule::Rule;
 use std::num;
@@ -153,7 +153,7 @@ fn try_seed(group: usize, s: Size, counts: Counts) -> Counts {
 // A grid with an edge three is turned away; any other is run, and turned away once a mark is altered.
 fn try_grid(rule: Rule, s: Size, seed: usize, givens: [u8; memory::CELLS], c: Counts) -> Counts {
     let best = plain::best_board(rule, s, &givens);
-    let place = edges::first(rule, s, &givens);
+    let place = edge_threes::first(rule, s, &givens);
     if place < s.cells {
         return try_edge(rule, s, place, best, givens, c);
     }

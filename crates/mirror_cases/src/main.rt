@@ -3,7 +3,7 @@
 #![tactic(auto)]
 
 mod calls;
-mod edges;
+mod edge_threes;
 mod forged;
 mod grids;
 mod marks;

@@ -3,7 +3,7 @@ use crate::calls::{After, Lent};
 use crate::memory::Memory;
 use crate::plain::Best;
 use crate::sizes::Size;
-use crate::{calls, edges, marks, memory, plain, random, sizes};
+use crate::{calls, edge_threes, marks, memory, plain, random, sizes};
 use job::{Job, Stage};
 use solver::Status;
 use std::num;
@@ -198,7 +198,7 @@ fn over_edge(s: Size, givens: [u8; memory::CELLS], t: Turn) -> Turn {
     let m = t.memory;
     let rule = job.rule;
     let marked = with_edge(s, givens);
-    let place = edges::first(rule, s, &marked);
+    let place = edge_threes::first(rule, s, &marked);
     if s.cells <= place {
         return t;
     }
