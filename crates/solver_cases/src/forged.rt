@@ -3,7 +3,7 @@ use crate::calls::After;
 use crate::memory::Memory;
 use crate::sizes::Size;
 use crate::unit::Ran;
-use crate::{calls, edges, marks, memory, random, rules, sizes, unit};
+use crate::{calls, edge_threes, marks, memory, random, rules, sizes, unit};
 use job::{Checkpoint, Job, JobResult};
 use job_kind::Kind;
 use rule::Rule;
@@ -81,7 +81,7 @@ fn try_job(kind: Kind, rule: Rule, seed: usize, t: Tally) -> Tally {
     let tally = with_stage(s, numbers, t);
     let mut givens = [0u8; memory::CELLS];
     marks::write_random(&mut givens, s.cells, seed);
-    let place = edges::first(rule, s, &givens);
+    let place = edge_threes::first(rule, s, &givens);
     if place < s.cells {
         return try_edge(s, seed, place, job, givens, tally);
     }

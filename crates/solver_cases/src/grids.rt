@@ -4,7 +4,7 @@ use crate::memory::Memory;
 use crate::pieces::Pieces;
 use crate::plain::Best;
 use crate::sizes::Size;
-use crate::{calls, edges, marks, memory, pieces, plain, rules, sizes};
+use crate::{calls, edge_threes, marks, memory, pieces, plain, rules, sizes};
 use job_kind::Kind;
 use rule::Rule;
 use solver::Status;
@@ -180,7 +180,7 @@ fn try_seed(group: usize, s: Size, counts: Counts) -> Counts {
 // A grid with an edge three is turned away; any other is run by both kinds.
 fn try_grid(rule: Rule, s: Size, seed: usize, givens: [u8; memory::CELLS], c: Counts) -> Counts {
     let best = plain::best_board(rule, s, &givens);
-    let place = edges::first(rule, s, &givens);
+    let place = edge_threes::first(rule, s, &givens);
     if place < s.cells {
         return try_edge(rule, s, place, best, givens, c);
     }
@@ -226,7 +226,8 @@ fn is_turned_away(
     place: usize,
     givens: [u8; memory::CELLS],
 ) -> bool {
-    edges::is_turned_away(rule, s, place, givens) && edges::is_turned_away(rule, two, place, givens)
+    edge_threes::is_turned_away(rule, s, place, givens)
+        && edge_threes::is_turned_away(rule, two, place, givens)
 }
 
 // One run over leftovers, and pieces over others.

@@ -4,7 +4,7 @@
 #![tactic(auto)]
 
 mod calls;
-mod edges;
+mod edge_threes;
 mod forged;
 mod grids;
 mod limits;
@@ -23,10 +23,10 @@ use job_kind::Kind;
 fn main() {
     grids::try_all();
     grids::try_rules();
-    edges::try_lines(b"every grid of 1 by 9 and 9 by 1: ", 0);
-    edges::try_lines(b"the same under pseudo-random rules: ", 5);
-    edges::try_random(b"pseudo-random grids up to 4 by 4, a third live: ", 0);
-    edges::try_random(b"the same under pseudo-random rules: ", 5);
+    edge_threes::try_lines(b"every grid of 1 by 9 and 9 by 1: ", 0);
+    edge_threes::try_lines(b"the same under pseudo-random rules: ", 5);
+    edge_threes::try_random(b"pseudo-random grids up to 4 by 4, a third live: ", 0);
+    edge_threes::try_random(b"the same under pseudo-random rules: ", 5);
     forged::try_jobs(b"forged jobs: ", Kind::Ordinary, 0);
     forged::try_jobs(b"forged jobs under other rules: ", Kind::Ordinary, 5);
     forged::try_jobs(b"forged jobs of two layers: ", Kind::TwoLayers, 0);

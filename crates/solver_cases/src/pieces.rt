@@ -3,7 +3,7 @@ use crate::calls::{After, Lent};
 use crate::memory::Memory;
 use crate::plain::Best;
 use crate::sizes::Size;
-use crate::{calls, edges, marks, memory, plain, random, sizes};
+use crate::{calls, edge_threes, marks, memory, plain, random, sizes};
 use job::{Job, Stage};
 use solver::Status;
 use std::num;
@@ -253,7 +253,7 @@ fn edge_of(s: Size, fault: usize, job: Job, givens: [u8; memory::CELLS]) -> usiz
         return s.cells;
     }
     let rule = job.rule;
-    edges::first(rule, s, &with_edge(s, givens))
+    edge_threes::first(rule, s, &with_edge(s, givens))
 }
 
 // The givens with three live marks from the first cell on, along row 1 or column 1.
