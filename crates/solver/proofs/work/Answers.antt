@@ -5,7 +5,6 @@ use Rattle.board.proofs.Answers.{let_through}
 use Rattle.board.specs.Answers.{check_says}
 use Rattle.service.specs.Service.{work_of}
 use Rattle.third_demand.proofs.CheckLaws.{lent_of}
-use borrow.Author.Rules.{rules}
 use Rattle.solver.proofs.work.Goals as goal
 
 pub work_on-requires : goal.work_on-requires

@@ -1,6 +1,5 @@
 -- `solver::wants::want_by` meets its contract.
 -- Assumes nothing.
-use borrow.Author.Rules.{rules}
 use Rattle.solver.proofs.wants.want_by.Goals as goal
 
 pub returns : goal.returns

@@ -1,6 +1,5 @@
 -- `solver::working::status_of` meets its contract, by the stage.
 -- Assumes nothing.
-use borrow.Author.Rules.{rules}
 use Rattle.solver.proofs.working.status_of.Goals as goal
 
 pub returns-in-Finished : goal.returns-in-Finished
