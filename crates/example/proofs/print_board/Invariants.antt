@@ -1,7 +1,6 @@
 -- `example::print_board` meets its contract. The measure: the cells left.
 -- Assumes nothing.
 use Prim.Native.Nat.{◌-◌, ◌≤◌}
-use borrow.Author.Rules.{rules}
 use Rattle.example.proofs.print_board.Given as goal
 
 abbrev pub invariant-loop-k : goal.invariant-loop-k
