@@ -4,11 +4,11 @@
 
 mod answers;
 mod cells;
+mod eight_turns;
 mod grids;
 mod pairs;
 mod random;
 mod tried;
-mod turns;
 
 use grids::Group;
 use rule::Rule;

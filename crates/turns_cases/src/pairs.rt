@@ -1,7 +1,7 @@
 // Turning twice, and turning back, on lists of distinct numbers.
 use crate::cells::Cells;
-use crate::turns::Turn;
-use crate::{cells, turns};
+use crate::eight_turns::Turn;
+use crate::{cells, eight_turns};
 use std::num;
 
 // What was tried of a list.
@@ -19,16 +19,16 @@ struct Tally {
 pub fn print_turns(w: usize, h: usize) {
     let list = cells::list(w, h);
     for n in 0..8 {
-        print_turn(turns::numbered(n), list);
+        print_turn(eight_turns::numbered(n), list);
     }
 }
 
 fn print_turn(t: Turn, list: Cells) {
     report::text(b"the list");
     cells::print(list);
-    turns::print(t);
+    eight_turns::print(t);
     report::text(b":");
-    cells::print(turns::by_steps(t, list));
+    cells::print(eight_turns::by_steps(t, list));
     report::text(b"\n");
 }
 
@@ -51,16 +51,21 @@ pub fn try_list(name: &[u8], w: usize, h: usize) {
 fn try_pairs(list: Cells, so_far: Tally) -> Tally {
     let mut t = so_far;
     for n in 0..64 {
-        t = try_pair(turns::numbered(n / 8), turns::numbered(n % 8), list, t);
+        t = try_pair(
+            eight_turns::numbered(n / 8),
+            eight_turns::numbered(n % 8),
+            list,
+            t,
+        );
     }
     t
 }
 
 // Turned by t and then by u, in both ways: the turn that `then` names gives the same.
 fn try_pair(t: Turn, u: Turn, list: Cells, so_far: Tally) -> Tally {
-    let once = turns::then(t, u);
-    let by_steps = turns::by_steps(u, turns::by_steps(t, list));
-    let at_once = turns::at_once(u, turns::at_once(t, list));
+    let once = eight_turns::then(t, u);
+    let by_steps = eight_turns::by_steps(u, eight_turns::by_steps(t, list));
+    let at_once = eight_turns::at_once(u, eight_turns::at_once(t, list));
     let mut next = so_far;
     next.pairs = num::wrapping_add_usize(so_far.pairs, 1);
     next.alike = num::wrapping_add_usize(so_far.alike, alike(list, by_steps));
@@ -74,7 +79,7 @@ fn try_pair(t: Turn, u: Turn, list: Cells, so_far: Tally) -> Tally {
 fn alike(list: Cells, turned: Cells) -> usize {
     let mut n = 0;
     for k in 0..8 {
-        if is_turned(turns::numbered(k), list, turned) {
+        if is_turned(eight_turns::numbered(k), list, turned) {
             n = num::wrapping_add_usize(n, 1);
         }
     }
@@ -83,22 +88,23 @@ fn alike(list: Cells, turned: Cells) -> usize {
 
 // Whether a turn gives a list, in both ways.
 fn is_turned(t: Turn, list: Cells, turned: Cells) -> bool {
-    cells::same(turns::by_steps(t, list), turned) && cells::same(turns::at_once(t, list), turned)
+    cells::same(eight_turns::by_steps(t, list), turned)
+        && cells::same(eight_turns::at_once(t, list), turned)
 }
 
 fn try_inverses(list: Cells, so_far: Tally) -> Tally {
     let mut t = so_far;
     for n in 0..8 {
-        t = try_inverse(turns::numbered(n), list, t);
+        t = try_inverse(eight_turns::numbered(n), list, t);
     }
     t
 }
 
 fn try_inverse(t: Turn, list: Cells, so_far: Tally) -> Tally {
-    let back = turns::inverse(t);
+    let back = eight_turns::inverse(t);
     let mut next = so_far;
     next.inverses = num::wrapping_add_usize(so_far.inverses, 1);
-    if is_turned(back, turns::by_steps(t, list), list) {
+    if is_turned(back, eight_turns::by_steps(t, list), list) {
         return next;
     }
     differs(next)

@@ -1,9 +1,9 @@
 // Grids against their turned grids: the answers, and the boards.
 use crate::answers::{Answer, Solution, Way};
 use crate::cells::Cells;
+use crate::eight_turns::Turn;
 use crate::grids::Group;
-use crate::turns::Turn;
-use crate::{answers, cells, grids, random, turns};
+use crate::{answers, cells, eight_turns, grids, random};
 use job_kind::Kind;
 use rule::Rule;
 use std::num;
@@ -126,8 +126,8 @@ fn try_turn(case: Case, n: usize, t: Tally) -> Tally {
     next.turned = num::wrapping_add_usize(t.turned, 1);
     next.pieces = num::wrapping_add_usize(t.pieces, pieces);
     next.others = num::wrapping_add_usize(t.others, other);
-    let turn = turns::numbered(n);
-    let givens = turns::by_steps(turn, case.givens);
+    let turn = eight_turns::numbered(n);
+    let givens = eight_turns::by_steps(turn, case.givens);
     compared(case, turn, givens, answers::solve(way, givens), next)
 }
 
@@ -141,7 +141,7 @@ fn compared(case: Case, turn: Turn, givens: Cells, solution: Solution, t: Tally)
     }
     match now {
         Answer::Best(score) => {
-            let board = turns::at_once(turn, first.board);
+            let board = eight_turns::at_once(turn, first.board);
             judged(case, turn, givens, board, solution.board, score, t)
         }
         Answer::None => without_board(1, 0, t),
@@ -200,6 +200,6 @@ fn print_difference(what: &[u8], rule: Rule, givens: Cells, turn: Turn) {
     report::line(b"  survivals ", rule.survivals);
     report::text(b"  givens");
     cells::print(givens);
-    turns::print(turn);
+    eight_turns::print(turn);
     report::text(b"\n");
 }
