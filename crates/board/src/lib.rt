@@ -90,6 +90,7 @@ pub fn check_height(h: usize) -> Check
 }
 
 // 1, 2 by how rows are held: width, 1 to 10, or even and 2 to 20 where they are held as their left halves; then height.
+#[tactic(auto, unfolding(crate::specs::Checks::size_check))]
 pub fn check_size(halves: bool, w: usize, h: usize) -> Check
     ensures { check_says result ≡ size_check halves w h }
 {

@@ -1,10 +1,8 @@
--- `board::is_among` meets its contract, by its tests.
+-- `board::is_among` meets its contract, by its tests. No name here has the number that the code tests against.
 -- Assumes nothing.
-use borrow.Author.Tests.{le-leb, lt-leb}
+use Rattle.std.proofs.Common.{arith}
+use borrow.Author.Tests.{le-leb}
 use Rattle.board.proofs.is_among.Goals as goal
 
-pub returns-then-i-lt1 : goal.returns-then-i-lt1
-returns-then-i-lt1 c = simp (lt-leb 1 _ c.if-i-lt1.true)
-
 pub returns : goal.returns
-returns c = simp (le-leb 1 _ c.if-i-lt1.false)
+returns c = simp (le-leb 1 c.args.i (omega arith))
