@@ -3,14 +3,12 @@
 -- Assumes nothing.
 use mathlib.Core.Path.{◌≡◌, refl, ◌∙◌, sym, ap}
 use mathlib.Core.Bool.{Bool, true, false}
-use mathlib.Core.Option.{Option, none, some}
+use Rattle.std.specs.Prelude.{Option, None, Some, Result, Ok, Err}
 use mathlib.Core.List.{List, [], ◌∷◌}
 use Prim.Native.Nat.{ℕ}
 use native.Mathlib.Omega.{arith}
 use Rattle.board.specs.Answers.{Answer, gives, refuses, refusal_says, check_says, passed, ◌then◌, refuse_unless, refuse_at, Checked, after}
 use Rattle.board.specs.declared.Refusal.{Refusal}
-use Rattle.board.specs.declared.Check.{Check}
-use Rattle.board.specs.declared.Check.TheVariants.{Passed, Refused}
 
 -- a refusal gives nothing
 pub refuses_none : {n : ℕ} {us vs : List ℕ} → refuses n us ≡ gives vs → ⊥
@@ -25,30 +23,30 @@ pub unless_gives : (t : Bool) (n : ℕ) {vs : List ℕ} → refuse_unless t n �
 unless_gives true n e = refl
 unless_gives false n e = absurd (refuses_none e)
 
-pub at_gives : (o : Option ℕ) (n : ℕ) {vs : List ℕ} → refuse_at o n ≡ gives vs → o ≡ none
-at_gives none n e = refl
-at_gives (some i) n e = absurd (refuses_none e)
+pub at_gives : (o : Option ℕ) (n : ℕ) {vs : List ℕ} → refuse_at o n ≡ gives vs → o ≡ None
+at_gives None n e = refl
+at_gives (Some i) n e = absurd (refuses_none e)
 
 -- refused with a place, it is that place
-pub at_refuses : (o : Option ℕ) (n p : ℕ) → refuse_at o n ≡ refuses n (p ∷ []) → o ≡ some p
-at_refuses none n p e = absurd (refuses_none (sym e))
-at_refuses (some q) n p e = let z : q ≡ p = cc in ap some z
+pub at_refuses : (o : Option ℕ) (n p : ℕ) → refuse_at o n ≡ refuses n (p ∷ []) → o ≡ Some p
+at_refuses None n p e = absurd (refuses_none (sym e))
+at_refuses (Some q) n p e = let z : q ≡ p = cc in ap Some z
 
 -- what a refused call leaves in a buffer
 pub refused_keeps : {a : Answer} (r : Refusal) → refusal_says r ≡ a → (written held : List ℕ) → held ≡ after a written held
 refused_keeps r e written held = rw (← e)
 
 -- a check that says a
-module _ {k : Check} {a : Answer} (says : check_says k ≡ a) where
+module _ {k : Result Unit Refusal} {a : Answer} (told : check_says k ≡ a) where
   -- refused, it decides
-  pub turned_away_lem : {r : Refusal} → k ≡ Refused r → (rest : Answer) → refusal_says r ≡ (a then rest)
-  turned_away_lem {r} e rest = sym (ap (λ (b : Answer). b then rest) (sym says ∙ ap check_says e))
+  pub turned_away_lem : {r : Refusal} → k ≡ Err r → (rest : Answer) → refusal_says r ≡ (a then rest)
+  turned_away_lem {r} e rest = sym (ap (λ (b : Answer). b then rest) (sym told ∙ ap check_says e))
 
   -- passed, it leaves the rest to decide
-  pub let_through : k ≡ Passed → a ≡ passed
-  let_through e = sym says ∙ ap check_says e
+  pub let_through : {u : Unit} → k ≡ Ok u → a ≡ passed
+  let_through e = sym told ∙ ap check_says e
 
-  pub passed_on : k ≡ Passed → {b rest : Answer} → b ≡ rest → b ≡ (a then rest)
+  pub passed_on : {u : Unit} → k ≡ Ok u → {b rest : Answer} → b ≡ rest → b ≡ (a then rest)
   passed_on e q = rw (let_through e) q
 
 -- ---- checks that never answer n
@@ -62,8 +60,8 @@ module _ (n : ℕ) where
   checked_unless false m f = f
 
   pub checked_at : (o : Option ℕ) (m : ℕ) → (m ≡ n → ⊥) → Checked n (refuse_at o m)
-  checked_at none m f = refl
-  checked_at (some i) m f = f
+  checked_at None m f = refl
+  checked_at (Some i) m f = f
 
   -- they give no values
   pub checked_passed : (a : Answer) → Checked n a → {values : List ℕ} → a ≡ gives values → a ≡ passed

@@ -2,7 +2,7 @@
 -- Assumes nothing.
 use mathlib.Core.Path.{◌≡◌}
 use mathlib.Core.Bool.{Bool, false}
-use mathlib.Core.Option.{Option, none, some}
+use Rattle.std.specs.Prelude.{Option, None, Some}
 use mathlib.Core.List.{List}
 use Prim.Native.Nat.{ℕ, ◌*◌, ◌<◌, ◌≤◌}
 use native.Mathlib.Omega.{arith}
@@ -51,12 +51,12 @@ size_passes s = size_passes_by false (size_by s)
 
 -- ---- the bytes: their length, then each of them
 module _ (n m most w h : ℕ) (bytes : List ℕ) where
-  small : first_not (at_most most bytes) (length bytes) ≡ none → (k : ℕ) → k < length bytes → get_or bytes k 0 ≤ most
+  small : first_not (at_most most bytes) (length bytes) ≡ None → (k : ℕ) → k < length bytes → get_or bytes k 0 ≤ most
   small e = go (first_not (at_most most bytes) (length bytes)) (searched (at_most most bytes) (length bytes)) e
     where
-      go : (o : Option ℕ) → Searched (at_most most bytes) (length bytes) o → o ≡ none → (k : ℕ) → k < length bytes → get_or bytes k 0 ≤ most
-      go none (all_pass f) q k l = leb-true _ _ (f k l)
-      go (some i) (fails_at _ l p f) q k j = let z : ◌≡◌ {A = ℕ} 0 1 = cc in omega arith
+      go : (o : Option ℕ) → Searched (at_most most bytes) (length bytes) o → o ≡ None → (k : ℕ) → k < length bytes → get_or bytes k 0 ≤ most
+      go None (all_pass f) q k l = leb-true _ _ (f k l)
+      go (Some i) (fails_at _ l p f) q k j = let z : ◌≡◌ {A = ℕ} 0 1 = cc in omega arith
 
   bytes_of : {vs : List ℕ} → (length_check n w h bytes then bytes_check m most bytes) ≡ gives vs → Bytes most w h bytes
   bytes_of e =

@@ -1,13 +1,8 @@
 -- Document 01, "Turned away": answers in the paper's numbers, the order of checks, and what a refused call leaves.
 -- Assumes nothing.
-use Rattle.std.specs.Prelude.{◌≡◌, Bool, cond, List, [], ◌∷◌, ℕ}
-use Rattle.std.proofs.Math.Option.{Option, none, some}
+use Rattle.std.specs.Prelude.{◌≡◌, Bool, cond, List, [], ◌∷◌, ℕ, Option, None, Some, Result, Ok, Err}
 use Rattle.board.specs.declared.Refusal.{Refusal}
 use Rattle.board.specs.declared.Refusal.TheVariants.{Width, Height, GivensLength, Mark, BoardLength, ShortTable, Checkpoint, Letter, SpoiledTable, ShortOutput, Cell, LongText, Rule, EdgeThree, Lopsided}
-use Rattle.board.specs.declared.Check.{Check}
-use Rattle.board.specs.declared.Check.TheVariants.{Passed, Refused}
-use Rattle.board.specs.declared.Place.{Place}
-use Rattle.board.specs.declared.Place.TheVariants.{Nowhere, At}
 
 -- an answer in the paper's terms: the values that a call gives, or a refusal's number and the values that come with it
 pub data Answer : Type 0 where
@@ -55,14 +50,18 @@ values_of (Lopsided place) = place ∷ []
 abbrev pub refusal_says : Refusal → Answer
 refusal_says r = refuses (number_of r) (values_of r)
 
+-- a result says the values that it gives, or its refusal
+abbrev pub says : {T : Type 0} → (T → List ℕ) → Result T Refusal → Answer
+says values (Ok x) = gives (values x)
+says values (Err r) = refusal_says r
+
 -- ---- checks
 -- a check that turns nothing away
 abbrev pub passed : Answer
 passed = gives []
 
-abbrev pub check_says : Check → Answer
-check_says Passed = passed
-check_says (Refused r) = refusal_says r
+abbrev pub check_says : Result Unit Refusal → Answer
+check_says = says (λ u. [])
 
 -- checks in their order: the first that refuses decides
 infixr 30 ◌then◌
@@ -76,17 +75,13 @@ refuse_unless holds n = cond holds passed (refuses n [])
 
 -- refusal n with a place, where there is one
 abbrev pub refuse_at : Option ℕ → ℕ → Answer
-refuse_at none n = passed
-refuse_at (some place) n = refuses n (place ∷ [])
+refuse_at None n = passed
+refuse_at (Some place) n = refuses n (place ∷ [])
 
 -- what a check says that never answers n: nothing, or another refusal
 abbrev pub Checked : ℕ → Answer → Type 0
 Checked n (gives values) = values ≡ []
 Checked n (refuses m values) = m ≡ n → ⊥
-
-abbrev pub place_of : Place → Option ℕ
-place_of Nowhere = none
-place_of (At i) = some i
 
 -- ---- lent memory
 -- what a lent buffer holds after a call: what the call writes, or what it held before where the call is refused

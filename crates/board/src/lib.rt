@@ -1,14 +1,14 @@
 // What every call on a board shares: the refusals, and the checks of a size, a board, a grid of givens, a target and a table.
 #![tactic(auto)]
 
-ghost use Rattle.std.specs.Prelude.{◌≡◌, ◌*◌, eqb, length};
-ghost use Rattle.board.specs.Answers.{number_of, check_says, place_of};
+ghost use Rattle.std.specs.Prelude.{◌≡◌, ◌*◌, eqb, length, position, nat_lt};
+ghost use Rattle.board.specs.Answers.{number_of, check_says};
 ghost use Rattle.board.specs.Boards.{among, row_digits, width_fits, byte_at};
 ghost use Rattle.board.specs.Checks.{width_check, height_check, size_check, cells_check, board_check, marks_check, givens_check, target_check, at_most, table_size_within, table_check};
 ghost use Rattle.board.specs.Search.{first_not};
 
 // Why a call is turned away, in the order of the documents' numbers, with the first wrong place where they give one.
-#[derive(Clone, Copy)]
+#[derive(Clone, Copy, Debug, PartialEq, Eq)]
 pub enum Refusal {
     Width,
     Height,
@@ -27,11 +27,11 @@ pub enum Refusal {
     Lopsided(usize),
 }
 
-// What a check comes to.
-#[derive(Clone, Copy)]
-pub enum Check {
-    Passed,
-    Refused(Refusal),
+// A row that is chosen, by its number, and what it earns.
+#[derive(Clone, Copy, Debug, PartialEq, Eq)]
+pub struct ChosenRow {
+    pub row: usize,
+    pub worth: usize,
 }
 
 impl Refusal {
@@ -68,37 +68,37 @@ pub const MAX_HEIGHT: usize = 60;
 pub const MAX_MIRROR_WIDTH: usize = 2 * MAX_WIDTH;
 
 // 1: width 1 to 10.
-pub fn check_width(w: usize) -> Check
+pub fn check_width(w: usize) -> Result<(), Refusal>
     ensures { check_says result ≡ width_check w }
 {
     if is_among(MAX_WIDTH, w) {
-        Check::Passed
+        Ok(())
     } else {
-        Check::Refused(Refusal::Width)
+        Err(Refusal::Width)
     }
 }
 
 // 2: height 1 to 60.
-pub fn check_height(h: usize) -> Check
+pub fn check_height(h: usize) -> Result<(), Refusal>
     ensures { check_says result ≡ height_check h }
 {
     if is_among(MAX_HEIGHT, h) {
-        Check::Passed
+        Ok(())
     } else {
-        Check::Refused(Refusal::Height)
+        Err(Refusal::Height)
     }
 }
 
 // 1, 2 by how rows are held: width, 1 to 10, or even and 2 to 20 where they are held as their left halves; then height.
 #[tactic(auto, unfolding(crate::specs::Checks::size_check))]
-pub fn check_size(halves: bool, w: usize, h: usize) -> Check
+pub fn check_size(halves: bool, w: usize, h: usize) -> Result<(), Refusal>
     ensures { check_says result ≡ size_check halves w h }
 {
     if w < 1 {
-        return Check::Refused(Refusal::Width);
+        return Err(Refusal::Width);
     }
     if !width_fits(halves, w) {
-        return Check::Refused(Refusal::Width);
+        return Err(Refusal::Width);
     }
     check_height(h)
 }
@@ -124,52 +124,53 @@ pub fn row_digits(halves: bool, w: usize) -> usize
 }
 
 // 5, 11: w × h cells, each 0 or 1.
-pub fn check_cells(w: usize, h: usize, cells: &[u8]) -> Check
+#[tactic(auto, unfolding(crate::specs::Checks::cells_check), using(crate::proofs::Search::position_first))]
+pub fn check_cells(w: usize, h: usize, cells: &[u8]) -> Result<(), Refusal>
     ensures { check_says result ≡ cells_check w h cells.now }
 {
     if !has_length(cells, w, h) {
-        return Check::Refused(Refusal::BoardLength);
+        return Err(Refusal::BoardLength);
     }
     match first_above(cells, 1) {
-        Place::At(i) => Check::Refused(Refusal::Cell(i)),
-        Place::Nowhere => Check::Passed,
+        Some(i) => Err(Refusal::Cell(i)),
+        None => Ok(()),
     }
 }
 
 // 1, 2, 5, 11: the size, then the cells.
-pub fn check_board(w: usize, h: usize, cells: &[u8]) -> Check
+#[tactic(auto, unfolding(crate::specs::Checks::board_check))]
+pub fn check_board(w: usize, h: usize, cells: &[u8]) -> Result<(), Refusal>
     ensures { check_says result ≡ board_check w h cells.now }
 {
-    if let Check::Refused(r) = check_size(false, w, h) {
-        return Check::Refused(r);
-    }
+    check_size(false, w, h)?;
     check_cells(w, h, cells)
 }
 
 // 3, 4: w × h marks, each 0, 1 or 2.
-pub fn check_givens(w: usize, h: usize, givens: &[u8]) -> Check
+pub fn check_givens(w: usize, h: usize, givens: &[u8]) -> Result<(), Refusal>
     ensures { check_says result ≡ givens_check w h givens.now }
 {
     check_marks(2, w, h, givens)
 }
 
 // 3, 4 of a target, which is lent in the givens' place: w × h bytes, each 0 or 1.
-pub fn check_target(w: usize, h: usize, target: &[u8]) -> Check
+pub fn check_target(w: usize, h: usize, target: &[u8]) -> Result<(), Refusal>
     ensures { check_says result ≡ target_check w h target.now }
 {
     check_marks(1, w, h, target)
 }
 
 // 3, 4: w × h marks, each at most a limit.
-fn check_marks(most: u8, w: usize, h: usize, marks: &[u8]) -> Check
+#[tactic(auto, unfolding(crate::specs::Checks::marks_check), using(crate::proofs::Search::position_first))]
+fn check_marks(most: u8, w: usize, h: usize, marks: &[u8]) -> Result<(), Refusal>
     ensures { check_says result ≡ marks_check most w h marks.now }
 {
     if !has_length(marks, w, h) {
-        return Check::Refused(Refusal::GivensLength);
+        return Err(Refusal::GivensLength);
     }
     match first_above(marks, most) {
-        Place::At(i) => Check::Refused(Refusal::Mark(i)),
-        Place::Nowhere => Check::Passed,
+        Some(i) => Err(Refusal::Mark(i)),
+        None => Ok(()),
     }
 }
 
@@ -187,20 +188,20 @@ pub fn table_size(w: usize, h: usize) -> usize
 }
 
 // 6: h layers of 4^w entries or more, for any w and h: the product is never formed.
-pub fn check_table(w: usize, h: usize, table: &[u16]) -> Check
+pub fn check_table(w: usize, h: usize, table: &[u16]) -> Result<(), Refusal>
     ensures { check_says result ≡ table_check w h table.now }
 {
     let n = table.len();
     if h == 0 {
-        return Check::Passed;
+        return Ok(());
     }
     if 31 < w {
-        return Check::Refused(Refusal::ShortTable);
+        return Err(Refusal::ShortTable);
     }
     if n >> (2 * w) < h {
-        return Check::Refused(Refusal::ShortTable);
+        return Err(Refusal::ShortTable);
     }
-    Check::Passed
+    Ok(())
 }
 
 // Whether there are w × h bytes, for any w and h: the product is never formed.
@@ -253,22 +254,9 @@ fn is_among(limit: usize, i: usize) -> bool
     i <= limit
 }
 
-#[derive(Clone, Copy)]
-enum Place {
-    Nowhere,
-    At(usize),
-}
-
 // The first byte above a limit.
-fn first_above(bytes: &[u8], most: u8) -> Place
-    ensures { place_of result ≡ first_not (at_most most bytes.now) (length bytes.now) }
+fn first_above(bytes: &[u8], most: u8) -> Option<usize>
+    ensures { result ≡ position (λ byte. nat_lt most byte) bytes.now }
 {
-    let mut i = 0;
-    while i < bytes.len() {
-        if most < bytes[i] {
-            return Place::At(i);
-        }
-        i += 1;
-    }
-    Place::Nowhere
+    bytes.iter().position(|byte| most < *byte)
 }

@@ -3,7 +3,7 @@
 use mathlib.Core.Path.{◌≡◌, refl, ◌∙◌, sym, ap}
 use mathlib.Core.Bool.{Bool, true, false, cond, ◌&&◌}
 use mathlib.Core.List.{List}
-use mathlib.Core.Option.{Option, none, some}
+use Rattle.std.specs.Prelude.{Option, None, Some}
 use Prim.Native.Nat.{ℕ, zero, suc, ◌+◌, ◌*◌, ◌-◌, ◌^◌, ◌<◌, ◌≤◌}
 use native.Mathlib.Omega.{arith}
 use native.Mathlib.Decide.{dec_lt}
@@ -27,8 +27,8 @@ count nothing = 0
 count (chosen c v) = suc v
 
 abbrev counted : Option ℕ → ℕ
-counted none = 0
-counted (some v) = suc v
+counted None = 0
+counted (Some v) = suc v
 
 entry_count : (o : Choice ℕ) → entry_in (count o) ≡ worth_of absent o
 unfolding entry_in
@@ -61,9 +61,9 @@ module _ (want : Want) (next : ℕ → ℕ) (w h : ℕ) (givens : List ℕ) (k a
 
   -- the candidate m, after the choice so far
   considered : (m : ℕ) (o : Option ℕ) (held : Choice ℕ) → count (consider G.comparison m o held) ≡ larger (count held) (counted o)
-  considered m none held = sym (larger_none (count held))
-  considered m (some x) nothing = sym (rw (lt-ltb 0 (suc x) (omega arith)))
-  considered m (some x) (chosen c y) =
+  considered m None held = sym (larger_none (count held))
+  considered m (Some x) nothing = sym (rw (lt-ltb 0 (suc x) (omega arith)))
+  considered m (Some x) (chosen c y) =
       rw most
       (elim (dec_lt y x) [
         | yes l ↦ rw (lt-ltb y x l, lt-ltb (suc y) (suc x) (omega arith))

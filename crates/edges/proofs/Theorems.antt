@@ -3,7 +3,7 @@
 use mathlib.Core.Path.{◌≡◌, refl, sym, ◌∙◌}
 use mathlib.Core.Bool.{Bool, true, false, cond, not}
 use mathlib.Core.List.{List}
-use mathlib.Core.Option.{Option, none, some}
+use Rattle.std.specs.Prelude.{Option, None, Some}
 use Prim.Native.Nat.{ℕ, ◌*◌, ◌-◌, ◌+◌}
 use native.Mathlib.Nat.{mul_comm}
 use native.Mathlib.Omega.{arith}
@@ -22,32 +22,32 @@ module _ (w h : ℕ) (g : List ℕ) where
   test p = not (edge_three_at w h g p)
 
   -- ---- no such cell
-  no_middle : first_edge_three w h g ≡ none → (r c : ℕ) → edge_three w h g r c ≡ false
+  no_middle : first_edge_three w h g ≡ None → (r c : ℕ) → edge_three w h g r c ≡ false
   no_middle e r c = go (first_edge_three w h g) (searched test (length g)) e (edge_three w h g r c) refl
     where
-      go : (o : Option ℕ) → Searched test (length g) o → o ≡ none → (t : Bool) → edge_three w h g r c ≡ t → t ≡ false
+      go : (o : Option ℕ) → Searched test (length g) o → o ≡ None → (t : Bool) → edge_three w h g r c ≡ t → t ≡ false
       go o S q false m = refl
-      go none (all_pass f) q true m =
+      go None (all_pass f) q true m =
           let s = middle_live w h g r c m in
           let p = not-true _ (f ((r - 1) * w + (c - 1)) (place_marked w h g s)) in
           sym m ∙ sym (place_middle w h g s) ∙ p
-      go (some i) (fails_at _ l p f) q true m = let z : ◌≡◌ {A = ℕ} 0 1 = cc in absurd (omega arith)
+      go (Some i) (fails_at _ l p f) q true m = let z : ◌≡◌ {A = ℕ} 0 1 = cc in absurd (omega arith)
 
-  none_found_lem : ((r c : ℕ) → edge_three w h g r c ≡ false) → first_edge_three w h g ≡ none
+  none_found_lem : ((r c : ℕ) → edge_three w h g r c ≡ false) → first_edge_three w h g ≡ None
   none_found_lem f = none_of test (length g) (λ p l. rw (f _ _))
 
   -- ---- the first such cell
-  first_middle : (p : ℕ) → first_edge_three w h g ≡ some p → FirstMiddle w h g p
+  first_middle : (p : ℕ) → first_edge_three w h g ≡ Some p → FirstMiddle w h g p
   first_middle p e = go (first_edge_three w h g) (searched test (length g)) e
     where
-      go : (o : Option ℕ) → Searched test (length g) o → o ≡ some p → FirstMiddle w h g p
-      go none (all_pass f) q = let z : ◌≡◌ {A = ℕ} 0 1 = cc in absurd (omega arith)
-      go (some i) (fails_at _ l t f) q =
+      go : (o : Option ℕ) → Searched test (length g) o → o ≡ Some p → FirstMiddle w h g p
+      go None (all_pass f) q = let z : ◌≡◌ {A = ℕ} 0 1 = cc in absurd (omega arith)
+      go (Some i) (fails_at _ l t f) q =
           let z : i ≡ p = cc in
           let m : edge_three_at w h g p ≡ true = rw (← z) (not-false (edge_three_at w h g i) t) in
           record { inside = rw (mul_comm w h) (middle_place w h g p m).1; middle = m; before = λ k b. not-true _ (f k (rw z b)) }
 
-  found_first : (p : ℕ) → FirstMiddle w h g p → first_edge_three w h g ≡ some p
+  found_first : (p : ℕ) → FirstMiddle w h g p → first_edge_three w h g ≡ Some p
   found_first p F =
       some_of test (length g) p (middle_place w h g p F.middle).0 (rw F.middle) (λ k l. rw (F.before k l))
 
@@ -62,4 +62,4 @@ edge_checks_right rule w h g = record {
 -- it answers 14 alone
 pub edge_checked : (n : ℕ) (rule : Rule) (w h : ℕ) (g : List ℕ) → (14 ≡ n → ⊥) → Checked n (edge_check rule w h g)
 unfolding edge_check
-edge_checked n rule w h g p = checked_at n (cond (born_on3 rule) (first_edge_three w h g) none) 14 p
+edge_checked n rule w h g p = checked_at n (cond (born_on3 rule) (first_edge_three w h g) None) 14 p

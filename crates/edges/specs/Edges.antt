@@ -1,7 +1,6 @@
 -- Req 04: edge threes, and when a grid is turned away for one.
 -- Assumes nothing.
-use Rattle.std.specs.Prelude.{Bool, cond, not, ◌&&◌, ◌||◌, List, ℕ, ◌+◌, ◌-◌, ◌/◌, ◌%◌, eqb, length}
-use Rattle.std.proofs.Math.Option.{Option, none}
+use Rattle.std.specs.Prelude.{Bool, cond, not, ◌&&◌, ◌||◌, List, ℕ, ◌+◌, ◌-◌, ◌/◌, ◌%◌, eqb, length, Option, None}
 use Rattle.board.specs.Answers.{Answer, refuse_at}
 use Rattle.board.specs.Boards.{byte_at}
 use Rattle.board.specs.Search.{first_not}
@@ -42,4 +41,4 @@ born_on3 rule = eqb (has_count rule.births 3) 1
 
 -- 14, Edge three: under a rule with birth on 3, with the first such cell's place
 unfoldable pub edge_check : Rule → ℕ → ℕ → List ℕ → Answer
-edge_check rule w h givens = refuse_at (cond (born_on3 rule) (first_edge_three w h givens) none) 14
+edge_check rule w h givens = refuse_at (cond (born_on3 rule) (first_edge_three w h givens) None) 14

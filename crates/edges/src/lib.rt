@@ -6,27 +6,25 @@ ghost use Rattle.std.specs.Prelude.{◌≡◌, ◌&&◌, ◌+◌, ◌<◌, lengt
 ghost use Rattle.board.specs.Answers.{check_says};
 ghost use Rattle.edges.specs.Edges.{given_live_at, at_edge, edge_three, edge_check};
 
-use board::{Check, Refusal};
+use board::Refusal;
 use rule::Rule;
 
 // 14: under a rule with birth on 3, no cell is the middle of an edge three. The place is the first such cell's.
-pub fn check(rule: Rule, w: usize, h: usize, givens: &[u8]) -> Check
+pub fn check(rule: Rule, w: usize, h: usize, givens: &[u8]) -> Result<(), Refusal>
     ensures { check_says result ≡ edge_check rule w h givens.now }
 {
     if rule.births / 8 % 2 != 1 {
-        return Check::Passed;
+        return Ok(());
     }
     if w == 0 {
-        return Check::Passed;
+        return Ok(());
     }
-    let mut place = 0;
-    while place < givens.len() {
+    for place in 0..givens.len() {
         if is_edge_three(w, h, givens, place / w, place % w) {
-            return Check::Refused(Refusal::EdgeThree(place));
+            return Err(Refusal::EdgeThree(place));
         }
-        place += 1;
     }
-    Check::Passed
+    Ok(())
 }
 
 // Whether the cell with r rows above it and c columns before it is the middle of an edge three.

@@ -3,7 +3,7 @@
 -- Assumes nothing.
 use mathlib.Core.Path.{◌≡◌, refl, sym, ◌∙◌, ap}
 use mathlib.Core.Bool.{Bool, true, false, cond, true≢false}
-use mathlib.Core.Option.{some}
+use Rattle.std.specs.Prelude.{Some}
 use mathlib.Core.List.{List, [], ◌∷◌}
 use Prim.Native.Nat.{ℕ, zero, suc, ◌≤◌, ◌<◌}
 use native.Mathlib.Omega.{arith}
@@ -66,7 +66,7 @@ module _ {X : Type 0} (G : Kind X) {h : ℕ} (L : Laws G h) where
         go (valid_none f p q) = absurd (true≢false (sym e ∙ ap G.counts p ∙ L.absent_not_counted))
         go (valid_ending T v) = record { counted = e; optimal = T; valid = v }
 
-    no_ending_more : ((c : ℕ) (x : X) → c < G.codes → offer G k a b (right_entry G k b) c ≡ some x → ⊥) → NoEnding G (suc k) a b
+    no_ending_more : ((c : ℕ) (x : X) → c < G.codes → offer G k a b (right_entry G k b) c ≡ Some x → ⊥) → NoEnding G (suc k) a b
     no_ending_more f [] e = e
     no_ending_more f (c ∷ ds) e =
         f c (G.add k c (right_entry G k b c)) e.0 (some_offer G k a b (right_entry G k b) c e.1 (rest_of_ending c ds e.2).counted)
@@ -103,7 +103,7 @@ module _ {X : Type 0} (G : Kind X) {h : ℕ} (L : Laws G h) where
             (no_better_cons r y d ds (c.optimal.unbeaten ds e.2)
             (C.unbeaten d (G.add k d (right_entry G k b d)) e.0 (some_offer G k a b (right_entry G k b) d e.1 c.counted)))
 
-    offers_valid : (c : ℕ) (x : X) → offer G k a b (right_entry G k b) c ≡ some x → L.valid x ≡ true
+    offers_valid : (c : ℕ) (x : X) → offer G k a b (right_entry G k b) c ≡ Some x → L.valid x ≡ true
     offers_valid c x e =
         let o = offer_some G k a b (right_entry G k b) c x e in
         rw o.worth (L.valid_add (rest_of_counted c o.counted).valid)

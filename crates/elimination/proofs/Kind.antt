@@ -2,7 +2,7 @@
 -- Assumes nothing.
 use mathlib.Core.Path.{◌≡◌, refl, sym, ◌∙◌, ap}
 use mathlib.Core.Bool.{Bool, true, false, cond}
-use mathlib.Core.Option.{some}
+use Rattle.std.specs.Prelude.{Some}
 use Prim.Native.Nat.{ℕ, zero, suc, ◌<◌}
 use native.Mathlib.Omega.{arith}
 use Rattle.elimination.specs.Candidates.{scan}
@@ -17,15 +17,15 @@ module _ {X : Type 0} (G : Kind X) where
     pub counted : G.counts (read c) ≡ true
     pub worth : x ≡ G.add k c (read c)
 
-  pub offer_some : (k a b : ℕ) (read : ℕ → X) (c : ℕ) (x : X) → offer G k a b read c ≡ some x → Offers k a b read c x
+  pub offer_some : (k a b : ℕ) (read : ℕ → X) (c : ℕ) (x : X) → offer G k a b read c ≡ Some x → Offers k a b read c x
   offer_some k a b read c x = go (G.may k a b c) refl (G.counts (read c)) refl
     where
-      go : (t : Bool) → G.may k a b c ≡ t → (u : Bool) → G.counts (read c) ≡ u → offer_if G t k read c ≡ some x → Offers k a b read c x
+      go : (t : Bool) → G.may k a b c ≡ t → (u : Bool) → G.counts (read c) ≡ u → offer_if G t k read c ≡ Some x → Offers k a b read c x
       go true e true f p = record { allowed = e; counted = f; worth = cc }
       go true e false f p = absurd (let z : ◌≡◌ {A = ℕ} 0 1 = cc in omega arith)
       go false e u f p = absurd (let z : ◌≡◌ {A = ℕ} 0 1 = cc in omega arith)
 
-  pub some_offer : (k a b : ℕ) (read : ℕ → X) (c : ℕ) → G.may k a b c ≡ true → G.counts (read c) ≡ true → offer G k a b read c ≡ some (G.add k c (read c))
+  pub some_offer : (k a b : ℕ) (read : ℕ → X) (c : ℕ) → G.may k a b c ≡ true → G.counts (read c) ≡ true → offer G k a b read c ≡ Some (G.add k c (read c))
   some_offer k a b read c e f = rw (e, f)
 
   -- ---- the rules

@@ -1,8 +1,7 @@
 -- Document 01, "A job and its units": of the candidates take the best, and among equals the first. The choice by trying 0, 1, .. in turn, and
 -- what it means that it is right. Which worth is worse, the order of ties and a tie's worth are left open.
 -- Assumes nothing.
-use Rattle.std.specs.Prelude.{◌≡◌, Bool, true, false, List, ℕ, zero, suc, ◌<◌}
-use Rattle.std.proofs.Math.Option.{Option, none, some}
+use Rattle.std.specs.Prelude.{◌≡◌, Bool, true, false, List, ℕ, zero, suc, ◌<◌, Option, None, Some}
 use Rattle.elimination.specs.Order.{row_before, rows_before, StrictWeakOrder, Tied, NoBetter}
 
 -- a candidate with its worth, or none
@@ -33,9 +32,9 @@ module _ {X : Type 0} (K : Comparison X) where
 
   -- the candidate m, by what it offers, after the choice so far
   abbrev pub consider : ℕ → Option X → Choice X → Choice X
-  consider m none held = held
-  consider m (some x) nothing = chosen m x
-  consider m (some x) (chosen c y) = against (K.worse y x) (K.worse x y) m x c y
+  consider m None held = held
+  consider m (Some x) nothing = chosen m x
+  consider m (Some x) (chosen c y) = against (K.worse y x) (K.worse x y) m x c y
 
   -- the choice among the candidates below m, where `offer c` is what c is worth, if it may be taken
   unfoldable pub scan : (ℕ → Option X) → ℕ → Choice X
@@ -56,19 +55,19 @@ module _ {X : Type 0} (K : Comparison X) where
 
   -- no candidate below m is better than row r, worth y
   abbrev pub Unbeaten : (ℕ → Option X) → ℕ → ℕ → X → Type 0
-  Unbeaten offer m r y = (c : ℕ) (x : X) → c < m → offer c ≡ some x → NoBetterRow x c y r
+  Unbeaten offer m r y = (c : ℕ) (x : X) → c < m → offer c ≡ Some x → NoBetterRow x c y r
 
   -- r is the best of the candidates below m, and y is what it and those tied with it are worth
   pub record BestCandidate (offer : ℕ → Option X) (m r : ℕ) (y : X) : Type 0 where
     pub inside : r < m
     pub worth : X
-    pub offered : offer r ≡ some worth
+    pub offered : offer r ≡ Some worth
     pub tied : Tied K.worse worth y
     pub unbeaten : Unbeaten offer m r y
 
   -- a choice among the candidates below m is right: none where none offers anything, and otherwise the best
   pub data Found (offer : ℕ → Option X) (m : ℕ) : Choice X → Type 0 where
-    none_found : ((c : ℕ) (x : X) → c < m → offer c ≡ some x → ⊥) → Found offer m nothing
+    none_found : ((c : ℕ) (x : X) → c < m → offer c ≡ Some x → ⊥) → Found offer m nothing
     best_found : (r : ℕ) (y : X) → BestCandidate offer m r y → Found offer m (chosen r y)
 
   -- THE THEOREM of a scan: its choice is right

@@ -1,9 +1,8 @@
 -- Document 01, "The score table" and choosing, for any kind of job: the rules of an entry and of a choice over whatever numbers are read, the
 -- right entries, and the rows that they choose. A layer goes by k, the number of rows after it: layer i of h is k = h - i.
 -- Assumes nothing.
-use Rattle.std.specs.Prelude.{Bool, true, false}
+use Rattle.std.specs.Prelude.{Bool, true, false, Option, None, Some}
 use Rattle.std.proofs.Math.Bool.{cond}
-use Rattle.std.proofs.Math.Option.{Option, none, some}
 use mathlib.Core.List.{List, [], ◌∷◌}
 use Prim.Native.Nat.{ℕ, zero, suc}
 use Rattle.elimination.specs.Candidates.{Choice, nothing, chosen, Comparison, scan}
@@ -30,8 +29,8 @@ pub record Kind (X : Type 0) : Type 0 where
 module _ {X : Type 0} where
   -- the worth x, of a candidate whose number read counts or not
   abbrev pub offer_counted : Bool → X → Option X
-  offer_counted true x = some x
-  offer_counted false x = none
+  offer_counted true x = Some x
+  offer_counted false x = None
 
   -- the worth of a choice, or the number for none
   abbrev pub worth_of : X → Choice X → X
@@ -46,7 +45,7 @@ module _ {X : Type 0} where
 module _ {X : Type 0} (G : Kind X) where
   -- what c offers, which may stand there or not, where `read c` is the number read for it
   abbrev pub offer_if : Bool → ℕ → (ℕ → X) → ℕ → Option X
-  offer_if false k read c = none
+  offer_if false k read c = None
   offer_if true k read c = offer_counted (G.counts (read c)) (G.add k c (read c))
 
   -- what the candidate c below a over b offers, with k rows after it

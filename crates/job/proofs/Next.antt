@@ -2,7 +2,7 @@
 -- Assumes nothing.
 use mathlib.Core.Path.{◌≡◌, refl, sym, ◌∙◌, ap, ap₂}
 use mathlib.Core.Bool.{Bool, true, false, cond, not, ◌&&◌}
-use mathlib.Core.Option.{Option, none, some}
+use Rattle.std.specs.Prelude.{Option, None, Some}
 use Prim.Native.Nat.{ℕ, zero, suc, ◌+◌, ◌*◌, ◌^◌, ◌≤◌, ◌<◌}
 use native.Mathlib.Nat.{add-zero, mul-le-mul_left}
 use native.Mathlib.Numerals.{add-one}
@@ -30,7 +30,7 @@ use Rattle.job.proofs.Rounds.{fills_entry, fills_on, chooses_row, rows_spent}
 use Rattle.job.proofs.Fits.{job_at, numbers_at, fits_numbers, fits_frame, job_back}
 use Rattle.job.proofs.Checkpoints.{chosen_le}
 
-none_some : {A : Type 0} {x : A} → none ≡ some x → ◌≡◌ {A = ℕ} 0 1
+none_some : {A : Type 0} {x : A} → None ≡ Some x → ◌≡◌ {A = ℕ} 0 1
 none_some e = cc
 
 -- ---- sizes
@@ -47,7 +47,7 @@ pub record Due (j : Job) (o : Task) : Type 0 where
   pub until : j.units < board_length j.kind j.width j.height
   pub plans : (shape_of j.kind j.width j.height).plan j.units ≡ o
 
-cond_some : {A : Type 0} (b : Bool) (x o : A) → cond b (some x) none ≡ some o → (b ≡ true) × (x ≡ o)
+cond_some : {A : Type 0} (b : Bool) (x o : A) → cond b (Some x) None ≡ Some o → (b ≡ true) × (x ≡ o)
 cond_some true x o e = (refl, cc)
 cond_some false x o e = absurd (let z : ◌≡◌ {A = ℕ} 0 1 = cc in omega arith)
 
@@ -69,7 +69,7 @@ module _ (j : Job) where
   runs_by : Width (halves_of j.kind) j.width → j.height ≤ max_height → mark_of j.stage ≡ 0 → runs_within j ≡ true
   runs_by a b m = rw (width_fits_lem (halves_of j.kind) j.width a, le-leb j.height max_height b, m)
 
-  pub due_at : (o : Task) → task_due j ≡ some o → Due j o
+  pub due_at : (o : Task) → task_due j ≡ Some o → Due j o
   unfolding task_due
   due_at o e =
       let p = cond_some (runs_within j && ltb j.units long) next o e in
@@ -82,15 +82,15 @@ module _ (j : Job) where
       }
 
   -- a running job has a task while units are left
-  pub due_while : runs_within j ≡ true → task_due j ≡ cond (ltb j.units long) (some next) none
+  pub due_while : runs_within j ≡ true → task_due j ≡ cond (ltb j.units long) (Some next) None
   unfolding task_due
   due_while e = rw e
 
-  pub due_never : runs_within j ≡ false → task_due j ≡ none
+  pub due_never : runs_within j ≡ false → task_due j ≡ None
   unfolding task_due
   due_never e = rw e
 
-  pub due_by : Width (halves_of j.kind) j.width → j.height ≤ max_height → mark_of j.stage ≡ 0 → j.units < long → task_due j ≡ some next
+  pub due_by : Width (halves_of j.kind) j.width → j.height ≤ max_height → mark_of j.stage ≡ 0 → j.units < long → task_due j ≡ Some next
   due_by a b m l = due_while (runs_by a b m) ∙ rw (lt-ltb j.units long l)
 
   -- ---- the job after its task
@@ -106,19 +106,19 @@ module _ (j : Job) where
     pub after_fills_lem : (x.left ≡ 0 → ⊥) → job_with j (after_entries 1 (numbers_in (numbers_of j))) ≡ after_unit j chosen
     after_fills_lem f =
         let F = fills_entry R f in
-        let d : task_due j ≡ some (round_fill j.height (4 ^ kind_digits j.kind j.width) (layer_start j.kind j.width) x.place) = due_while e ∙ rw (lt-ltb j.units long F.1, F.2) in
+        let d : task_due j ≡ Some (round_fill j.height (4 ^ kind_digits j.kind j.width) (layer_start j.kind j.width) x.place) = due_while e ∙ rw (lt-ltb j.units long F.1, F.2) in
         let one : job_with j (after_entries 1 (numbers_in (numbers_of j))) ≡ job_with j (after_entry (numbers_in (numbers_of j))) = rw (add-one j.units) in
         one ∙ sym (after_task_lem d chosen)
 
     pub after_chooses : x.left ≡ 0 → x.rows < j.height → after_choice (shape_of j.kind j.width j.height) x.rows j chosen ≡ after_unit j chosen
     after_chooses f l =
         let F = chooses_row R f l in
-        let d : task_due j ≡ some (row x.rows (layer_start j.kind j.width x.rows)) = due_while e ∙ rw (lt-ltb j.units long F.0, F.1) in
+        let d : task_due j ≡ Some (row x.rows (layer_start j.kind j.width x.rows)) = due_while e ∙ rw (lt-ltb j.units long F.0, F.1) in
         sym (after_task_lem d chosen)
 
     pub after_spent : j.height ≤ x.rows → j ≡ after_unit j chosen
     after_spent l =
-        let d : task_due j ≡ none = due_while e ∙ rw (le-ltb j.units long (rows_spent R l)) in
+        let d : task_due j ≡ None = due_while e ∙ rw (le-ltb j.units long (rows_spent R l)) in
         sym (after_task_lem d chosen)
 
   -- ---- the job after so many entries
@@ -199,7 +199,7 @@ module _ (j : Job) (f : job_fits j ≡ true) where
       go k (fails q) z = absurd (omega arith)
 
   -- so the plan's task is due
-  pub due_running : mark_of j.stage ≡ 0 → task_due j ≡ some ((shape_of j.kind j.width j.height).plan j.units)
+  pub due_running : mark_of j.stage ≡ 0 → task_due j ≡ Some ((shape_of j.kind j.width j.height).plan j.units)
   due_running m = due_by j fits_size.0 fits_size.1 m (fits_until m)
 
   -- so many entries are filled where each of the next units fills one
@@ -214,13 +214,13 @@ module _ (j : Job) (f : job_fits j ≡ true) where
       numbers_for u k = record { units = u; above = above_of j.stage; last = last_of j.stage; live = live_of j.stage; mark = k }
 
   -- and without a task it has ended
-  pub due_none : task_due j ≡ none → mark_of j.stage ≡ 0 → ⊥
+  pub due_none : task_due j ≡ None → mark_of j.stage ≡ 0 → ⊥
   due_none e m = let z : ◌≡◌ {A = ℕ} 0 1 = none_some (sym e ∙ due_running m) in omega arith
 
   -- ---- the job after its unit
   module _ (m : mark_of j.stage ≡ 0) where
-    after_due : {o : Task} → (shape_of j.kind j.width j.height).plan j.units ≡ o → (chosen : Chosen) → after_unit j chosen ≡ after_task (some o) j chosen
-    after_due p chosen = after_task_lem j (due_running m ∙ ap some p) chosen
+    after_due : {o : Task} → (shape_of j.kind j.width j.height).plan j.units ≡ o → (chosen : Chosen) → after_unit j chosen ≡ after_task (Some o) j chosen
+    after_due p chosen = after_task_lem j (due_running m ∙ ap Some p) chosen
 
     pub after_row_lem : {r source : ℕ} → (shape_of j.kind j.width j.height).plan j.units ≡ row r source → (c x : ℕ) → c < 2 ^ kind_digits j.kind j.width → x ≤ j.width
         → after_unit j (Chosen.Row c x) ≡ job_with j (after_row j.height r c (x + live_of j.stage) (numbers_in (numbers_of j)))

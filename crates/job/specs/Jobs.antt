@@ -2,8 +2,7 @@
 -- resuming, and the job after a unit. `Checkpoint` is the paper's seven numbers, the two of the rule and that of the kind, and the stage `Infeasible` its
 -- none.
 -- Assumes nothing.
-use Rattle.std.specs.Prelude.{Bool, true, cond, not, ◌&&◌, List, [], ◌∷◌, ℕ, zero, suc, ◌+◌, ◌*◌, eqb, leb, ltb}
-use Rattle.std.proofs.Math.Option.{Option, none, some}
+use Rattle.std.specs.Prelude.{Bool, true, cond, not, ◌&&◌, List, [], ◌∷◌, ℕ, zero, suc, ◌+◌, ◌*◌, eqb, leb, ltb, Option, None, Some}
 use Rattle.board.specs.Answers.{Answer, gives, refusal_says, ◌then◌, refuse_unless}
 use Rattle.board.specs.Boards.{among, max_height, width_fits, is_width}
 use Rattle.board.specs.Search.{all_below}
@@ -136,12 +135,12 @@ runs_within j = width_fits (halves_of j.kind) j.width && leb j.height max_height
 unfoldable pub task_due : Job → Option Elimination.Task
 task_due j =
     let S = shape_of j.kind j.width j.height in
-    cond (runs_within j && ltb j.units S.board_length) (some (S.plan j.units)) none
+    cond (runs_within j && ltb j.units S.board_length) (Some (S.plan j.units)) None
 
 abbrev pub task_of : Task.Task → Option Elimination.Task
-task_of (Task.Task.Fill after source target entry) = some (Elimination.fill after source target entry)
-task_of (Task.Task.Choose row source) = some (Elimination.row row source)
-task_of Task.Task.Nothing = none
+task_of (Task.Task.Fill after source target entry) = Some (Elimination.fill after source target entry)
+task_of (Task.Task.Choose row source) = Some (Elimination.row row source)
+task_of Task.Task.Nothing = None
 
 -- a job's ten numbers with these in place of those that its units change, and the job of them
 abbrev pub numbers_with : Job → Numbers → Checkpoint
@@ -172,9 +171,9 @@ after_choice S (suc r) j Chosen.Nothing = j
 
 -- The job after its unit: by its task, and where that chooses a row by what is chosen. Without a task it stays as it is.
 abbrev pub after_task : Option Elimination.Task → Job → Chosen → Job
-after_task none j chosen = j
-after_task (some (Elimination.fill k source target entry)) j chosen = job_with j (after_entry (numbers_in (numbers_of j)))
-after_task (some (Elimination.row r source)) j chosen = after_choice (shape_of j.kind j.width j.height) r j chosen
+after_task None j chosen = j
+after_task (Some (Elimination.fill k source target entry)) j chosen = job_with j (after_entry (numbers_in (numbers_of j)))
+after_task (Some (Elimination.row r source)) j chosen = after_choice (shape_of j.kind j.width j.height) r j chosen
 
 unfoldable pub after_unit : Job → Chosen → Job
 after_unit j chosen = after_task (task_due j) j chosen

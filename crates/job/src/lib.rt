@@ -2,7 +2,7 @@
 // does on the table and the board is crate `solver`'s.
 #![tactic(auto)]
 
-use board::{Check, Refusal};
+use board::{ChosenRow, Refusal};
 use job_kind::Kind;
 use rule::Rule;
 
@@ -10,7 +10,7 @@ mod numbers;
 mod shape;
 mod units;
 
-ghost use Rattle.std.specs.Prelude.{◌≡◌};
+ghost use Rattle.std.specs.Prelude.{◌≡◌, option_map};
 ghost use Rattle.job.specs.Jobs.{numbers_of, task_due, task_of, after_unit, after_fills};
 ghost use Rattle.job.specs.Calls.{Opens, Pauses, Resumes};
 
@@ -62,19 +62,6 @@ pub struct Checkpoint {
     pub kind: usize,
 }
 
-// What opening and resuming hand out.
-#[derive(Clone, Copy)]
-pub enum JobResult {
-    Ready(Job),
-    Refused(Refusal),
-}
-
-#[derive(Clone, Copy)]
-pub enum Paused {
-    Numbers(Checkpoint),
-    Refused(Refusal),
-}
-
 // What the next unit of a job is to do.
 #[derive(Clone, Copy)]
 pub enum Task {
@@ -90,29 +77,16 @@ pub enum Task {
         row: usize,
         source: usize,
     },
-    Nothing,
-}
-
-// What a unit that chooses comes to.
-#[derive(Clone, Copy)]
-pub enum Chosen {
-    // A row, and what it earns.
-    Row { row: usize, worth: usize },
-    Nothing,
 }
 
 // A job of a kind at unit 0 under a rule for a grid of givens: w × h marks, 0 free, 1 given dead, 2 given live; or for a target in their place: w × h
 // cells, 0 dead, 1 live. Refusals 1, 2, 13, 3, 4, 14, 15; of a target 1, 2, 13, 3, 4.
-pub fn open(kind: Kind, rule: Rule, width: usize, height: usize, givens: &[u8]) -> JobResult
+pub fn open(kind: Kind, rule: Rule, width: usize, height: usize, givens: &[u8]) -> Result<Job, Refusal>
     ensures { Opens kind rule width height givens.now result }
 {
-    if let Check::Refused(r) = rule::check(kind.halves(), rule, width, height) {
-        return JobResult::Refused(r);
-    }
-    if let Check::Refused(r) = job_kind::check_read(kind, rule, width, height, givens) {
-        return JobResult::Refused(r);
-    }
-    JobResult::Ready(Job {
+    rule::check(kind.halves(), rule, width, height)?;
+    job_kind::check_read(kind, rule, width, height, givens)?;
+    Ok(Job {
         kind,
         rule,
         width,
@@ -128,25 +102,25 @@ pub fn open(kind: Kind, rule: Rule, width: usize, height: usize, givens: &[u8]) 
 
 impl Checkpoint {
     // The job of these numbers, resumed as a kind. Refusal 7, also for numbers of another kind.
-    pub fn resume(self, kind: Kind) -> JobResult
+    pub fn resume(self, kind: Kind) -> Result<Job, Refusal>
         ensures { Resumes kind self result }
     {
         if !numbers::checkpoint_fits(kind, self) {
-            return JobResult::Refused(Refusal::Checkpoint);
+            return Err(Refusal::Checkpoint);
         }
-        JobResult::Ready(numbers::job_of(kind, self))
+        Ok(numbers::job_of(kind, self))
     }
 }
 
 impl Job {
     // The numbers of this job. Refusal 7.
-    pub fn pause(self) -> Paused
+    pub fn pause(self) -> Result<Checkpoint, Refusal>
         ensures { Pauses self result }
     {
         if !numbers::job_fits(self) {
-            return Paused::Refused(Refusal::Checkpoint);
+            return Err(Refusal::Checkpoint);
         }
-        Paused::Numbers(numbers::numbers_of(self))
+        Ok(numbers::numbers_of(self))
     }
 
     // The ten numbers of this job, whether they fit or not.
@@ -156,20 +130,20 @@ impl Job {
         numbers::numbers_of(self)
     }
 
-    // What the next unit is to do: nothing where the job has ended, its units are spent, or its width or height is past its limit.
-    pub fn task(self) -> Task
-        ensures { task_of result ≡ task_due self }
+    // What the next unit is to do: none where the job has ended, its units are spent, or its width or height is past its limit.
+    pub fn task(self) -> Option<Task>
+        ensures { option_map task_of result ≡ task_due self }
     {
         let job = self;
         if !units::is_running(job) {
-            return Task::Nothing;
+            return None;
         }
         let kind = job.kind;
         shape::task_at(kind, job.width, job.height, job.units)
     }
 
     // The job after its unit: by its task, and where that chooses a row by what is chosen. Without a task it stays as it is.
-    pub fn after(self, chosen: Chosen) -> Job
+    pub fn after(self, chosen: Option<ChosenRow>) -> Job
         ensures { result ≡ after_unit self chosen }
     {
         let job = self;

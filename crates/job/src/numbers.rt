@@ -9,7 +9,6 @@ ghost use Rattle.job.specs.declared.Stage.{Stage};
 
 use crate::shape::Round;
 use crate::{Checkpoint, Job, Stage, shape};
-use board::Check;
 use job_kind::Kind;
 use rule::Rule;
 
@@ -77,7 +76,7 @@ pub fn checkpoint_fits(kind: Kind, t: Checkpoint) -> bool
     }
     let w = t.width;
     let h = t.height;
-    if let Check::Refused(_) = rule::check(kind.halves(), rule_of(t), w, h) {
+    if rule::check(kind.halves(), rule_of(t), w, h).is_err() {
         return false;
     }
     let digits = kind.row_digits(w);
@@ -102,21 +101,9 @@ fn stage_fits(kind: Kind, w: usize, h: usize, units: usize, stage: Stage) -> boo
 {
     let x = shape::round_of(kind, w, h, units);
     match stage {
-        Stage::Filling {
-            above: _,
-            last: _,
-            live: _,
-        } => x.left != 0,
-        Stage::Choosing {
-            above: _,
-            last: _,
-            live: _,
-        } => x.left == 0,
-        Stage::Finished {
-            above: _,
-            last: _,
-            score: _,
-        } => true,
+        Stage::Filling { .. } => x.left != 0,
+        Stage::Choosing { .. } => x.left == 0,
+        Stage::Finished { .. } => true,
         Stage::Infeasible => true,
     }
 }

@@ -1,6 +1,5 @@
 // The shape of a job: in rounds, one for each row, layers are filled and then the row is chosen. The round that a unit is in says what it does.
-ghost use Rattle.std.specs.Prelude.{◌≡◌, cond, ltb, ◌^◌, ◌*◌, ◌≤◌, ◌<◌};
-ghost use Rattle.std.proofs.Math.Option.{none, some};
+ghost use Rattle.std.specs.Prelude.{◌≡◌, cond, ltb, ◌^◌, ◌*◌, ◌≤◌, ◌<◌, option_map};
 ghost use Rattle.board.specs.Boards.{max_height, Width};
 ghost use Rattle.elimination.specs.Rounds.{round_fill};
 ghost use Rattle.job_kind.specs.Kinds.{halves_of, kind_digits, board_length, round_work, layer_start, shape_of};
@@ -56,9 +55,8 @@ pub fn round_of(kind: Kind, w: usize, h: usize, units: usize) -> Round
     requires { Width (halves_of kind) w × (h ≤ max_height) }
     ensures { RoundIs kind w h units result }
 {
-    let mut rows = 0;
     let mut place = units;
-    while rows < h {
+    for rows in 0..h {
         let work = work_before(kind, w, h, rows);
         if place <= work {
             return Round {
@@ -68,36 +66,35 @@ pub fn round_of(kind: Kind, w: usize, h: usize, units: usize) -> Round
             };
         }
         place = place - work - 1;
-        rows += 1;
     }
     Round {
-        rows,
+        rows: h,
         place,
         left: 0,
     }
 }
 
 // What a unit is to do; nothing past the job's length.
-pub fn task_at(kind: Kind, w: usize, h: usize, units: usize) -> Task
+pub fn task_at(kind: Kind, w: usize, h: usize, units: usize) -> Option<Task>
     requires { Width (halves_of kind) w × (h ≤ max_height) }
-    ensures { task_of result ≡ cond (ltb units (board_length kind w h)) (some ((shape_of kind w h).plan units)) none }
+    ensures { option_map task_of result ≡ cond (ltb units (board_length kind w h)) (Some ((shape_of kind w h).plan units)) None }
 {
     let x = round_of(kind, w, h, units);
     if x.left != 0 {
-        return fill_at(kind, w, h, x.place);
+        return Some(fill_at(kind, w, h, x.place));
     }
     if x.rows < h {
         let row = x.rows;
         let source = layer_start(kind, w, row);
-        return Task::Choose { row, source };
+        return Some(Task::Choose { row, source });
     }
-    Task::Nothing
+    None
 }
 
 // The entry at a place of a round.
 fn fill_at(kind: Kind, w: usize, h: usize, place: usize) -> Task
     requires { Width (halves_of kind) w × (h ≤ max_height) × (place < h * 4 ^ kind_digits kind w) }
-    ensures { task_of result ≡ some (round_fill h (4 ^ kind_digits kind w) (layer_start kind w) place) }
+    ensures { task_of result ≡ round_fill h (4 ^ kind_digits kind w) (layer_start kind w) place }
 {
     let q = entries(kind, w, 1);
     let after = place / q;

@@ -1,13 +1,13 @@
 // The job after a unit.
-ghost use Rattle.std.specs.Prelude.{◌≡◌, cond, ltb, suc, ◌+◌, ◌^◌, ◌≤◌, ◌<◌};
+ghost use Rattle.std.specs.Prelude.{◌≡◌, cond, ltb, suc, ◌+◌, ◌^◌, ◌≤◌, ◌<◌, Some};
 ghost use Rattle.board.specs.Boards.{max_height, Width};
 ghost use Rattle.elimination.specs.Task.{is_fill};
 ghost use Rattle.elimination.specs.Shape.{after_entries, after_none};
 ghost use Rattle.job_kind.specs.Kinds.{halves_of, board_length, shape_of};
 ghost use Rattle.job.specs.Jobs.{runs_within, numbers_in, numbers_of, job_with, after_choice};
-ghost use Rattle.job.specs.declared.Chosen.{Chosen};
 
-use crate::{Checkpoint, Chosen, Job, numbers};
+use crate::{Checkpoint, Job, numbers};
+use board::ChosenRow;
 
 // Whether the job runs, and its width and height are within their limits.
 pub fn is_running(job: Job) -> bool
@@ -45,13 +45,13 @@ pub fn after_entries(job: Job, count: usize, more: bool) -> Job
 }
 
 // After the choice of the row with r rows above it.
-pub fn after_choice(job: Job, r: usize, chosen: Chosen) -> Job
+pub fn after_choice(job: Job, r: usize, chosen: Option<ChosenRow>) -> Job
     requires { Width (halves_of job.kind) job.width × (job.height ≤ max_height) × (job.units < board_length job.kind job.width job.height) × (r ≤ job.units) }
     ensures { result ≡ after_choice (shape_of job.kind job.width job.height) r job chosen }
 {
     match chosen {
-        Chosen::Row { row, worth } => after_row(job, r, row, worth),
-        Chosen::Nothing => {
+        Some(chosen) => after_row(job, r, chosen),
+        None => {
             if r != 0 {
                 return job;
             }
@@ -61,18 +61,18 @@ pub fn after_choice(job: Job, r: usize, chosen: Chosen) -> Job
 }
 
 // After a row.
-fn after_row(job: Job, r: usize, row: usize, worth: usize) -> Job
+fn after_row(job: Job, r: usize, chosen: ChosenRow) -> Job
     requires { Width (halves_of job.kind) job.width × (job.height ≤ max_height) × (job.units < board_length job.kind job.width job.height) × (r ≤ job.units) }
-    ensures { result ≡ after_choice (shape_of job.kind job.width job.height) r job (Chosen.Row row worth) }
+    ensures { result ≡ after_choice (shape_of job.kind job.width job.height) r job (Some chosen) }
 {
     let kind = job.kind;
     let w = job.width;
     let h = job.height;
     let t = numbers::numbers_of(job);
-    if row >> kind.row_digits(w) != 0 {
+    if chosen.row >> kind.row_digits(w) != 0 {
         return job;
     }
-    if w < worth {
+    if w < chosen.worth {
         return job;
     }
     if w * h < t.live {
@@ -85,8 +85,8 @@ fn after_row(job: Job, r: usize, row: usize, worth: usize) -> Job
             height: h,
             units: t.units + 1, // one row
             above: t.last,
-            last: row,
-            live: worth + t.live,
+            last: chosen.row,
+            live: chosen.worth + t.live,
             mark: mark_after(h, r),
             births: t.births,
             survivals: t.survivals,

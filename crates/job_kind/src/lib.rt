@@ -5,7 +5,7 @@ ghost use Rattle.std.specs.Prelude.{◌≡◌};
 ghost use Rattle.board.specs.Answers.{check_says};
 ghost use Rattle.job_kind.specs.Kinds.{kind_number, halves_of, refills, has_target, kind_digits, layers_of, read_check};
 
-use board::Check;
+use board::Refusal;
 use rule::Rule;
 
 // The kinds of job. The first two come to the same board; they differ in the table that they take, and in their length.
@@ -23,20 +23,16 @@ pub enum Kind {
 
 // The checks of what is lent to be read, by opening and by working: of a target 3, 4; of givens 3, 4, 14, and 15 where rows are held as their left
 // halves.
-pub fn check_read(kind: Kind, rule: Rule, width: usize, height: usize, givens: &[u8]) -> Check
+pub fn check_read(kind: Kind, rule: Rule, width: usize, height: usize, givens: &[u8]) -> Result<(), Refusal>
     ensures { check_says result ≡ read_check kind rule width height givens.now }
 {
     if kind.has_target() {
         return board::check_target(width, height, givens);
     }
-    if let Check::Refused(r) = board::check_givens(width, height, givens) {
-        return Check::Refused(r);
-    }
-    if let Check::Refused(r) = edges::check(rule, width, height, givens) {
-        return Check::Refused(r);
-    }
+    board::check_givens(width, height, givens)?;
+    edges::check(rule, width, height, givens)?;
     if !kind.halves() {
-        return Check::Passed;
+        return Ok(());
     }
     mirror::check(width, height, givens)
 }

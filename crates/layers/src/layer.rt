@@ -12,32 +12,25 @@ ghost use Rattle.column_elimination.specs.Written.{Wrote, Spread};
 ghost use Rattle.layers.specs.Layers.{Gained, LayerLent};
 
 use columns::{LAST_MASKS, MASKS, VECTOR};
-use score_table::{NONE, Want};
+use score_table::{Grid, NONE};
 
 // The rows of the widest grid.
 const ROWS: usize = 1 << board::MAX_WIDTH;
 
 // The layer with k rows after it that starts at `target`, by the layer that starts at `source`.
-pub fn fill(
-    next: &[u8; 512],
-    want: Want,
-    w: usize,
-    h: usize,
-    k: usize,
-    source: usize,
-    target: usize,
-    givens: &[u8],
-    table: &mut [u16],
-)
-    requires { LayerLent want w h k source target givens.now table.old }
-    ensures { table.new ≡ fill_entries (kind_for want (entry_of next.now) w h givens.now) k source target 0 (4 ^ w) table.old }
+pub fn fill(grid: Grid<'_>, k: usize, source: usize, target: usize, table: &mut [u16])
+    requires { LayerLent grid.want grid.width grid.height k source target grid.givens.now table.old }
+    ensures { table.new ≡ fill_entries (kind_for grid.want (entry_of grid.next.now) grid.width grid.height grid.givens.now) k source target 0 (4 ^ grid.width) table.old }
 {
+    let w = grid.width;
+    let h = grid.height;
+    let want = grid.want;
     let n = 1 << w;
     let limit = want.limit as u16;
     let mut worth = [0u16; ROWS];
-    gains(w, n, h, h - k, givens, &mut worth);
+    gains(w, n, h, h - k, grid.givens, &mut worth);
     let mut keep = [0u16; 512];
-    columns::keeps(next, &mut keep);
+    columns::keeps(grid.next, &mut keep);
     let mut s = [0u16; VECTOR];
     let mut d = [0u16; VECTOR];
     let mut masks = [0u16; MASKS];

@@ -10,53 +10,30 @@ ghost use Rattle.rule.specs.Rule.{entry_of};
 ghost use Rattle.score_table.specs.Calls.{fill_writes};
 ghost use Rattle.layers.specs.Layers.{are_apart, at_once};
 
-use score_table::Want;
+use score_table::{Entries, Grid, Want};
 
 // The narrowest grid whose layers are quicker by columns than entry by entry.
 const NARROWEST: usize = 4;
 
-// Fills entries of the layer that starts at `target` and has `after` rows after it, by the layer that starts at `source`: `count` of them from entry
-// `from` on. Where there are no such entries, the memory isn't of a grid of w by h cells, or a number could be taken for none, nothing is written.
-pub fn fill(
-    next: &[u8; 512],
-    want: Want,
-    w: usize,
-    h: usize,
-    after: usize,
-    source: usize,
-    target: usize,
-    from: usize,
-    count: usize,
-    givens: &[u8],
-    table: &mut [u16],
-)
-    ensures { table.new ≡ fill_writes want (entry_of next.now) w h after source target from count givens.now table.old }
+// Fills entries. Where there are no such entries, the memory isn't of a grid of its width and height, or a number could be taken for none, nothing is written.
+pub fn fill(grid: Grid<'_>, entries: Entries, table: &mut [u16])
+    ensures { table.new ≡ fill_writes grid.want (entry_of grid.next.now) grid.width grid.height entries.after entries.source entries.target entries.from entries.count grid.givens.now table.old }
 {
-    let n = table.len();
-    if !score_table::fill_fits(want, w, h, after, source, target, from, count, givens, n) {
+    if !score_table::fill_fits(grid, entries, table.len()) {
         return;
     }
-    if by_columns(want, w, after, source, target, count) {
-        layer::fill(next, want, w, h, after, source, target, givens, table);
+    if by_columns(grid.want, grid.width, entries) {
+        layer::fill(grid, entries.after, entries.source, entries.target, table);
         return;
     }
-    score_table::fill(
-        next, want, w, h, after, source, target, from, count, givens, table,
-    );
+    score_table::fill(grid, entries, table);
 }
 
 // Whether so many entries are a whole layer that is filled at once: one above the last, apart from the layer that it reads, the greatest sums are
 // wanted, a row's cells are its number's digits, and rows stay as they are.
-fn by_columns(
-    want: Want,
-    w: usize,
-    after: usize,
-    source: usize,
-    target: usize,
-    count: usize,
-) -> bool
+fn by_columns(want: Want, w: usize, entries: Entries) -> bool
     requires { want.halves ≡ false → w ≤ max_width }
-    ensures { result ≡ at_once want w after source target count }
+    ensures { result ≡ at_once want w entries.after entries.source entries.target entries.count }
 {
     if want.least {
         return false;
@@ -70,14 +47,14 @@ fn by_columns(
     if w < NARROWEST {
         return false;
     }
-    if after == 0 {
+    if entries.after == 0 {
         return false;
     }
     let q = board::table_size(w, 1);
-    if count != q {
+    if entries.count != q {
         return false;
     }
-    apart(source, target, q)
+    apart(entries.source, entries.target, q)
 }
 
 // Whether two layers of q entries lie apart.

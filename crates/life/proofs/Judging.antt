@@ -3,7 +3,7 @@
 use mathlib.Core.Path.{◌≡◌, refl, ◌∙◌, sym, ap, ap₂}
 use mathlib.Core.Bool.{Bool, true, false}
 use mathlib.Core.Logic.{inl, inr, ⊎_elim}
-use mathlib.Core.Option.{Option, none, some}
+use Rattle.std.specs.Prelude.{Option, None, Some}
 use mathlib.Core.List.{List}
 use Prim.Native.Nat.{ℕ, suc, ◌+◌, ◌*◌, ◌/◌, ◌%◌, ◌<◌, ◌≤◌}
 use native.Mathlib.Nat.{div-add-mod', div-lt_iff_lt-mul, eq-or-lt_of_le}
@@ -79,13 +79,13 @@ module _ (next : ℕ → ℕ) (w h : ℕ) (cells : List ℕ) where
   unfolding judged
   verdict = refl
 
-  of_still : StillBy next P → first_not test (ring_size w h) ≡ none
+  of_still : StillBy next P → first_not test (ring_size w h) ≡ None
   unfolding StillBy
   of_still s = none_of test (ring_size w h) (λ k l. keeps_of k (s (pos (k / (w + 2))) (pos (k % (w + 2)))))
 
   change_of : (r c : ℕ) (o : Option ℕ) → Searched test (ring_size w h) o → verdict_at w o ≡ changes r c → FirstChange (table_step next) w h P r c
-  change_of r c none (all_pass all) e = absurd (no_change e)
-  change_of r c (some k) (fails_at _ l f a) e =
+  change_of r c None (all_pass all) e = absurd (no_change e)
+  change_of r c (Some k) (fails_at _ l f a) e =
       let er : k / (w + 2) ≡ r = cc in
       let ec : k % (w + 2) ≡ c = cc in
       let ek : r * (w + 2) + c ≡ k = rw (er, ec) at (whole w k) in
@@ -96,15 +96,15 @@ module _ (next : ℕ → ℕ) (w h : ℕ) (cells : List ℕ) where
         kept = λ s d q m. kept_at s q (a (s * (w + 2) + d) (rw ek at (earlier w q m)));
       }
 
-  of_change : (r c : ℕ) → FirstChange (table_step next) w h P r c → first_not test (ring_size w h) ≡ some (r * (w + 2) + c)
+  of_change : (r c : ℕ) → FirstChange (table_step next) w h P r c → first_not test (ring_size w h) ≡ Some (r * (w + 2) + c)
   of_change r c f =
       some_of test (ring_size w h) (r * (w + 2) + c) (place_of w h f.row f.column) (changes_of r f.column f.changed)
       (λ j l. keeps_of j (f.kept (j / (w + 2)) (j % (w + 2)) (place_column w j) (earlier_place w f.column l)))
 
   module _ (quiet : next 0 ≡ 0) where
     still_of : (o : Option ℕ) → Searched test (ring_size w h) o → verdict_at w o ≡ still → StillBy next P
-    still_of none (all_pass all) e = still_of_ring w h cells next quiet (λ r c p q. kept_at r q (all (r * (w + 2) + c) (place_of w h p q)))
-    still_of (some k) (fails_at _ l f a) e = absurd (no_change (sym e))
+    still_of None (all_pass all) e = still_of_ring w h cells next quiet (λ r c p q. kept_at r q (all (r * (w + 2) + c) (place_of w h p q)))
+    still_of (Some k) (fails_at _ l f a) e = absurd (no_change (sym e))
 
 pub judge_right : (next : ℕ → ℕ) → next 0 ≡ 0 → JudgeRightBy next
 judge_right next quiet w h cells = (

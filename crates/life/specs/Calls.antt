@@ -1,7 +1,6 @@
 -- Document 01, "Life's step", and Req 02: what stepping writes and what judging answers, for every input.
 -- Assumes nothing.
-use Rattle.std.specs.Prelude.{Bool, false, List, [], ◌∷◌, ℕ, ◌+◌, ◌*◌, ◌/◌, ◌%◌, eqb, pos, length}
-use Rattle.std.proofs.Math.Option.{Option, none, some}
+use Rattle.std.specs.Prelude.{Bool, false, List, [], ◌∷◌, ℕ, ◌+◌, ◌*◌, ◌/◌, ◌%◌, eqb, pos, length, Option, None, Some, Result, Ok, Err}
 use Rattle.board.specs.Search.{first_not}
 use Rattle.board.specs.Answers.{Answer, gives, ◌then◌, refuse_unless, refusal_says, after}
 use Rattle.board.specs.Checks.{cells_check}
@@ -9,8 +8,8 @@ use Rattle.board.specs.Lists.{listed}
 use Rattle.rule.specs.Rule.{grid_check, next_under}
 use Rattle.rule.specs.declared.Rule.{Rule}
 use Rattle.life.specs.Plane.{on_plane, table_step}
-use Rattle.life.specs.declared.Verdict.{Verdict}
-use Rattle.life.specs.declared.Verdict.TheVariants.{Still, Changes, Refused}
+use Rattle.board.specs.declared.Refusal.{Refusal}
+use Rattle.life.specs.declared.Change.{Change}
 
 -- the cells of the board and its ring, counted in reading order: place k is row k / (w + 2), column k % (w + 2)
 abbrev pub ring_size : ℕ → ℕ → ℕ
@@ -48,14 +47,17 @@ still = gives []
 abbrev pub changes : ℕ → ℕ → Answer
 changes row column = gives (row ∷ column ∷ [])
 
-abbrev pub verdict_says : Verdict → Answer
-verdict_says Still = still
-verdict_says (Changes row column) = changes row column
-verdict_says (Refused r) = refusal_says r
+abbrev pub change_says : Option Change → Answer
+change_says None = still
+change_says (Some cell) = changes cell.row cell.column
+
+abbrev pub verdict_says : Result (Option Change) Refusal → Answer
+verdict_says (Ok change) = change_says change
+verdict_says (Err r) = refusal_says r
 
 abbrev pub verdict_at : ℕ → Option ℕ → Answer
-verdict_at w none = still
-verdict_at w (some k) = changes (k / (w + 2)) (k % (w + 2))
+verdict_at w None = still
+verdict_at w (Some k) = changes (k / (w + 2)) (k % (w + 2))
 
 -- the first cell of the ring or the inside, in reading order, that changes
 unfoldable pub judged : (ℕ → ℕ) → ℕ → ℕ → List ℕ → Answer

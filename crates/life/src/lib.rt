@@ -1,7 +1,7 @@
 // Life and its like: one step of a board under a rule, ring included, and whether a board is a still life.
 #![tactic(auto)]
 
-use board::{Check, Refusal};
+use board::Refusal;
 use rule::Rule;
 
 mod plane;
@@ -10,48 +10,42 @@ ghost use Rattle.std.specs.Prelude.{◌≡◌, length};
 ghost use Rattle.board.specs.Answers.{check_says};
 ghost use Rattle.life.specs.Calls.{verdict_says, life_check, judge_rule, step_rule, step_writes};
 
-// What judging finds; a cell's row and column count the ring.
-#[derive(Clone, Copy)]
-pub enum Verdict {
-    Still,
-    Changes { row: usize, column: usize },
-    Refused(Refusal),
+// A cell that changes, by its row and column, which count the ring.
+#[derive(Clone, Copy, Debug, PartialEq, Eq)]
+pub struct Change {
+    pub row: usize,
+    pub column: usize,
 }
 
 // Steps a board once under a rule: writes the next pattern, ring included, into exactly (w + 2) × (h + 2) bytes.
 // Refusals 1, 2, 13, 5, 11, 10.
-pub fn step(rule: Rule, w: usize, h: usize, cells: &[u8], ring: &mut [u8]) -> Check
+pub fn step(rule: Rule, w: usize, h: usize, cells: &[u8], ring: &mut [u8]) -> Result<(), Refusal>
     ensures { (check_says result ≡ step_rule rule w h cells.now (length ring.old)) ×
         (ring.new ≡ step_writes rule w h cells.now ring.old) }
 {
-    if let Check::Refused(r) = check_life(rule, w, h, cells) {
-        return Check::Refused(r);
-    }
+    check_life(rule, w, h, cells)?;
     if ring.len() != (w + 2) * (h + 2) {
-        return Check::Refused(Refusal::ShortOutput);
+        return Err(Refusal::ShortOutput);
     }
     let next = rule::table::of(rule);
     plane::write_step(&next, w, h, cells, ring);
-    Check::Passed
+    Ok(())
 }
 
-// Judges a board under a rule: still, or the first cell in reading order, ring counted, that one step changes. Refusals 1, 2, 13, 5, 11.
-pub fn judge(rule: Rule, w: usize, h: usize, cells: &[u8]) -> Verdict
+// Judges a board under a rule: the first cell in reading order, ring counted, that one step changes, or none where the board is still.
+// Refusals 1, 2, 13, 5, 11.
+pub fn judge(rule: Rule, w: usize, h: usize, cells: &[u8]) -> Result<Option<Change>, Refusal>
     ensures { verdict_says result ≡ judge_rule rule w h cells.now }
 {
-    if let Check::Refused(r) = check_life(rule, w, h, cells) {
-        return Verdict::Refused(r);
-    }
+    check_life(rule, w, h, cells)?;
     let next = rule::table::of(rule);
-    plane::first_change(&next, w, h, cells)
+    Ok(plane::first_change(&next, w, h, cells))
 }
 
 // 1, 2, 13, 5, 11: the size, the rule, then the cells.
-fn check_life(rule: Rule, w: usize, h: usize, cells: &[u8]) -> Check
+fn check_life(rule: Rule, w: usize, h: usize, cells: &[u8]) -> Result<(), Refusal>
     ensures { check_says result ≡ life_check rule w h cells.now }
 {
-    if let Check::Refused(r) = rule::check(false, rule, w, h) {
-        return Check::Refused(r);
-    }
+    rule::check(false, rule, w, h)?;
     board::check_cells(w, h, cells)
 }

@@ -5,9 +5,9 @@ ghost use Rattle.std.proofs.Math.IntN.{pred_ℤ};
 ghost use Rattle.board.specs.Boards.{Board};
 ghost use Rattle.rule.specs.Rule.{entry_of};
 ghost use Rattle.life.specs.Plane.{on_plane, three, around};
-ghost use Rattle.life.specs.Calls.{verdict_says, judged, stepped, ring_size};
+ghost use Rattle.life.specs.Calls.{change_says, judged, stepped, ring_size};
 
-use crate::Verdict;
+use crate::Change;
 
 // The cell in row i - 1 and column j - 1.
 fn cell(w: usize, h: usize, cells: &[u8], i: usize, j: usize) -> u8
@@ -50,22 +50,20 @@ fn pattern(w: usize, h: usize, cells: &[u8], r: usize, c: usize) -> usize
 }
 
 // The first cell that changes, over the ring and the inside.
-pub fn first_change(next: &[u8; 512], w: usize, h: usize, cells: &[u8]) -> Verdict
+pub fn first_change(next: &[u8; 512], w: usize, h: usize, cells: &[u8]) -> Option<Change>
     requires { Board w h cells.now }
-    ensures { verdict_says result ≡ judged (entry_of next.now) w h cells.now }
+    ensures { change_says result ≡ judged (entry_of next.now) w h cells.now }
 {
     let n = (w + 2) * (h + 2);
-    let mut k = 0; // the ring's top left corner
-    while k < n {
+    for k in 0..n {
         let r = k / (w + 2);
         let c = k % (w + 2);
         let p = pattern(w, h, cells, r, c);
         if next[p] != cell(w, h, cells, r + 1, c + 1) {
-            return Verdict::Changes { row: r, column: c };
+            return Some(Change { row: r, column: c });
         }
-        k += 1;
     }
-    Verdict::Still
+    None
 }
 
 // The next pattern, ring included, into a buffer of its length.
@@ -73,11 +71,9 @@ pub fn write_step(next: &[u8; 512], w: usize, h: usize, cells: &[u8], ring: &mut
     requires { Board w h cells.now × (length ring.old ≡ ring_size w h) }
     ensures { ring.new ≡ stepped (entry_of next.now) w h cells.now }
 {
-    let mut k = 0;
-    while k < ring.len() {
+    for k in 0..ring.len() {
         let p = pattern(w, h, cells, k / (w + 2), k % (w + 2));
         ring[k] = next[p];
-        k += 1;
     }
 }
 

@@ -4,7 +4,7 @@ use mathlib.Core.Path.{◌≡◌, sym, ◌∙◌, ap}
 use mathlib.Core.Bool.{true, false}
 use mathlib.Core.List.{List}
 use mathlib.Core.Logic.{⊎_elim}
-use mathlib.Core.Option.{Option, none, some}
+use Rattle.std.specs.Prelude.{Option, None, Some}
 use Prim.Native.Nat.{ℕ, ◌+◌, ◌*◌, ◌-◌, ◌/◌, ◌%◌, ◌<◌, ◌≤◌}
 use native.Mathlib.Decide.{dec_lt}
 use native.Mathlib.Nat.{mul_comm, add-sub_cancel, div-add-mod', eq-or-lt_of_le}
@@ -97,19 +97,19 @@ module _ (w h : ℕ) (g : List ℕ) where
     found = first_not (same_reflected w h g) (length g)
 
     -- ---- no such cell
-    none_mirrored : found ≡ none → Mirrored w h g
+    none_mirrored : found ≡ None → Mirrored w h g
     none_mirrored e = go found (searched (same_reflected w h g) (length g)) e
       where
-        go : (o : Option ℕ) → Searched (same_reflected w h g) (length g) o → o ≡ none → Mirrored w h g
-        go none (all_pass f) q =
+        go : (o : Option ℕ) → Searched (same_reflected w h g) (length g) o → o ≡ None → Mirrored w h g
+        go None (all_pass f) q =
             same_cells w h g n
             (λ r k l m.
             let b : r * w + k < w * h = rw (mul_comm w h) (digits_lt l m) in
             let s = same_of b (f (r * w + k) (rw n b)) in
             sym (rw (digits_div r m, digits_mod r m) at s))
-        go (some i) (fails_at _ l p f) q = let z : ◌≡◌ {A = ℕ} 0 1 = cc in absurd (omega arith)
+        go (Some i) (fails_at _ l p f) q = let z : ◌≡◌ {A = ℕ} 0 1 = cc in absurd (omega arith)
 
-    mirrored_none : Mirrored w h g → found ≡ none
+    mirrored_none : Mirrored w h g → found ≡ None
     mirrored_none e =
         none_of (same_reflected w h g) (length g)
         (λ p l.
@@ -118,7 +118,7 @@ module _ (w h : ℕ) (g : List ℕ) where
         of_same b (sym (cells_same w h g n e (p / w) (p % w) i.low i.narrow ∙ ap (λ (x : ℕ). get_or g x 0) (div-add-mod' p w))))
 
     -- ---- the first such cell
-    first_lopsided : (p : ℕ) → found ≡ some p → FirstLopsided w h g p
+    first_lopsided : (p : ℕ) → found ≡ Some p → FirstLopsided w h g p
     first_lopsided p e = go found (searched (same_reflected w h g) (length g)) e
       where
         first : (i : ℕ) → i < w * h → same_reflected w h g i ≡ false → ((k : ℕ) → k < i → same_reflected w h g k ≡ true) → FirstLopsided w h g i
@@ -127,11 +127,11 @@ module _ (w h : ℕ) (g : List ℕ) where
             let b : (k : ℕ) → k < i → Same k = λ k m. same_of (omega arith) (f k m) in
             record { inside = l; left = in_left (cell_inside l).narrow d b; differs = d; before = b }
 
-        go : (o : Option ℕ) → Searched (same_reflected w h g) (length g) o → o ≡ some p → FirstLopsided w h g p
-        go none (all_pass f) q = let z : ◌≡◌ {A = ℕ} 0 1 = cc in absurd (omega arith)
-        go (some i) (fails_at _ l t f) q = let z : i ≡ p = cc in rw z at (first i (rw n at l) t f)
+        go : (o : Option ℕ) → Searched (same_reflected w h g) (length g) o → o ≡ Some p → FirstLopsided w h g p
+        go None (all_pass f) q = let z : ◌≡◌ {A = ℕ} 0 1 = cc in absurd (omega arith)
+        go (Some i) (fails_at _ l t f) q = let z : i ≡ p = cc in rw z at (first i (rw n at l) t f)
 
-    found_first : (p : ℕ) → FirstLopsided w h g p → found ≡ some p
+    found_first : (p : ℕ) → FirstLopsided w h g p → found ≡ Some p
     found_first p F =
         some_of (same_reflected w h g) (length g) p (rw n F.inside) (of_differs F.inside F.differs)
         (λ k l. of_same (omega (arith, F.inside)) (F.before k l))

@@ -1,7 +1,7 @@
 -- Each answer of text in, from the tests that led to it.
 -- Assumes nothing.
 use mathlib.Core.Path.{◌≡◌, refl}
-use mathlib.Core.Option.{Option, none, some}
+use Rattle.std.specs.Prelude.{Option, None, Some}
 use mathlib.Core.List.{List, [], ◌∷◌}
 use Prim.Native.Nat.{ℕ, ◌*◌, ◌<◌, ◌≤◌}
 use borrow.Author.Tests.{le-leb, lt-leb}
@@ -21,13 +21,13 @@ use Rattle.plaintext.specs.Scanning.{measure_of}
 use Rattle.plaintext.proofs.Lines.{zero_ne_one}
 
 -- what the measure of a text says of its bad bytes and its rows
-pub measured_bad : (o : Option ℕ) (rows : List (List ℕ)) (p : ℕ) → Bad p ≡ measure_of o rows → o ≡ some p
-measured_bad none rows p e = let z : ◌≡◌ {A = ℕ} 0 1 = cc in absurd (zero_ne_one z)
-measured_bad (some q) rows p e = cc
+pub measured_bad : (o : Option ℕ) (rows : List (List ℕ)) (p : ℕ) → Bad p ≡ measure_of o rows → o ≡ Some p
+measured_bad None rows p e = let z : ◌≡◌ {A = ℕ} 0 1 = cc in absurd (zero_ne_one z)
+measured_bad (Some q) rows p e = cc
 
-pub measured_size : (o : Option ℕ) (rows : List (List ℕ)) (w h : ℕ) → Size w h ≡ measure_of o rows → (o ≡ none) × (w ≡ width_of rows) × (h ≡ length rows)
-measured_size none rows w h e = (refl, cc, cc)
-measured_size (some q) rows w h e = let z : ◌≡◌ {A = ℕ} 0 1 = cc in absurd (zero_ne_one z)
+pub measured_size : (o : Option ℕ) (rows : List (List ℕ)) (w h : ℕ) → Size w h ≡ measure_of o rows → (o ≡ None) × (w ≡ width_of rows) × (h ≡ length rows)
+measured_size None rows w h e = (refl, cc, cc)
+measured_size (Some q) rows w h e = let z : ◌≡◌ {A = ℕ} 0 1 = cc in absurd (zero_ne_one z)
 
 -- a height and a width that pass are a size
 pub checked_size : (w h : ℕ) {us vs : List ℕ} → height_check h ≡ gives us → width_check w ≡ gives vs → Sized w h
@@ -38,12 +38,12 @@ module _ (bytes : List ℕ) (at : ℕ) (cells : List ℕ) where
   read_refused : (r : Refusal) → refusal_says r ≡ read_rule bytes at (length cells) → ReadsText bytes at cells cells (I.Read.Refused r)
   read_refused r e = record { answers = e; leaves = refused_keeps r e _ _ }
 
-  pub read_bad : (p : ℕ) → first_bad (judged bytes at) ≡ some p → ReadsText bytes at cells cells (I.Read.Refused (Letter p))
+  pub read_bad : (p : ℕ) → first_bad (judged bytes at) ≡ Some p → ReadsText bytes at cells cells (I.Read.Refused (Letter p))
   unfolding read_rule
   read_bad p e = read_refused (Letter p) (rw e)
 
   -- a text of rows alone, w wide and h high
-  module _ (w h : ℕ) (size : (first_bad (judged bytes at) ≡ none) × (w ≡ width_of (rows_of (judged bytes at))) × (h ≡ length (rows_of (judged bytes at)))) where
+  module _ (w h : ℕ) (size : (first_bad (judged bytes at) ≡ None) × (w ≡ width_of (rows_of (judged bytes at))) × (h ≡ length (rows_of (judged bytes at)))) where
     by_size : {a : Answer} → a ≡ (height_check h then width_check w then refuse_unless (leb (w * h) (length cells)) 5 then gives (w ∷ h ∷ [])) → a ≡ read_rule bytes at (length cells)
     unfolding read_rule size_rule
     by_size e = rw (size.0, ← size.1, ← size.2) e

@@ -1,7 +1,7 @@
 -- Laws of cells that are 0 or 1, and of rows of them: the rows of a text are such, and the rows of a board.
 -- Assumes nothing.
 use mathlib.Core.Bool.{Bool, true, false, cond}
-use mathlib.Core.Option.{Option, none, some}
+use Rattle.std.specs.Prelude.{Option, None, Some}
 use mathlib.Core.List.{List, [], ◌∷◌, ◌++◌, map, flat_map}
 use Prim.Native.Nat.{ℕ, zero, suc, ◌+◌, ◌-◌, ◌<◌, ◌≤◌, zero-le, suc-le-suc}
 use native.Mathlib.Nat.{not-suc-le-zero, le_of_suc-le-suc, zero-lt-suc}
@@ -73,8 +73,8 @@ text_all at (l ∷ ls) = more (is_comment l.bytes) (first_not (letter_at (withou
   where
     more : (t : Bool) (o : Option ℕ) (js : List Judged) → AllRows (rows_of js) → AllRows (rows_of (cond t comment (judge_row at (without_cr l) o) ∷ js))
     more true o js a = a
-    more false none js a = (letters_all (without_cr l), a)
-    more false (some p) js a = a
+    more false None js a = (letters_all (without_cr l), a)
+    more false (Some p) js a = a
 
 pub cells_all : (w : ℕ) (rs : List (List ℕ)) → AllRows rs → AllCells (cells_of w rs)
 unfolding cells_of flat_map filled

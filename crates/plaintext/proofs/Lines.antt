@@ -2,7 +2,7 @@
 -- Assumes nothing.
 use mathlib.Core.Path.{◌≡◌, refl, sym, ap, ◌∙◌}
 use mathlib.Core.Bool.{Bool, true, false, cond, ◌&&◌}
-use mathlib.Core.Option.{Option, none, some}
+use Rattle.std.specs.Prelude.{Option, None, Some}
 use mathlib.Core.List.{List, [], ◌∷◌, map}
 use Prim.Native.Nat.{ℕ, zero, suc, ◌+◌, ◌-◌, ◌<◌, ◌≤◌, suc-le-suc}
 use native.Mathlib.Nat.{not-suc-le-zero, le_of_suc-le-suc, zero-lt-suc, add-sub_cancel_left}
@@ -145,9 +145,9 @@ kind_row at l n e = go (is_comment l.bytes) (first_not (letter_at (without_cr l)
     go : (t : Bool) (o : Option ℕ) → Row n ≡ line_kind (cond t comment (judge_row at (without_cr l) o))
         → (cond t comment (judge_row at (without_cr l) o) ≡ row (map letter_cell (take n l.bytes))) × (n ≤ length l.bytes)
     go true o e = let z : ◌≡◌ {A = ℕ} 0 1 = cc in absurd (zero_ne_one z)
-    go false none e =
+    go false None e =
         let r = row_first l in
         let m : n ≡ length (map letter_cell (without_cr l)) = cc in
         let k : n ≡ length (without_cr l) = m ∙ length-map (without_cr l) letter_cell in
         (rw (k, r.0), rw k r.1)
-    go false (some p) e = let z : ◌≡◌ {A = ℕ} 0 1 = cc in absurd (zero_ne_one z)
+    go false (Some p) e = let z : ◌≡◌ {A = ℕ} 0 1 = cc in absurd (zero_ne_one z)

@@ -4,7 +4,7 @@
 use mathlib.Core.Path.{◌≡◌, refl, sym, ap, ◌∙◌}
 use mathlib.Core.Bool.{Bool, true, false, cond}
 use mathlib.Core.Logic.{⊎_elim}
-use mathlib.Core.Option.{Option, none, some}
+use Rattle.std.specs.Prelude.{Option, None, Some}
 use mathlib.Core.List.{List, [], ◌∷◌, ◌++◌, Memᴰ}
 use Prim.Native.Nat.{ℕ, zero, suc, ◌+◌, ◌*◌, ◌<◌}
 use native.Mathlib.Nat.{not-suc-le-zero, le_of_suc-le-suc}
@@ -103,8 +103,8 @@ bad_here at p l rest clean e = go (is_comment l.bytes) (first_not (letter_at (wi
     go : (t : Bool) (o : Option ℕ) → Searched (letter_at (without_cr l)) (length (without_cr l)) o → cond t comment (judge_row at (without_cr l) o) ≡ bad p
         → (k : ℕ) × (p ≡ at + k) × NotAllowed (l.bytes ++ rest) k
     go true o s e = let z : ◌≡◌ {A = ℕ} 0 1 = cc in absurd (zero_ne_one z)
-    go false none s e = let z : ◌≡◌ {A = ℕ} 0 1 = cc in absurd (zero_ne_one z)
-    go false (some k) (fails_at _ h f _) e =
+    go false None s e = let z : ◌≡◌ {A = ℕ} 0 1 = cc in absurd (zero_ne_one z)
+    go false (Some k) (fails_at _ h f _) e =
         let r = row_first l in
         let same : get_or (without_cr l) k 0 ≡ get_or l.bytes k 0 = rw r.0 at (get_or-take (length (without_cr l)) l.bytes k 0 h) in
         let inside : k < length l.bytes = omega arith in
@@ -120,7 +120,7 @@ bad_here at p l rest clean e = go (is_comment l.bytes) (first_not (letter_at (wi
         )
 
 -- a bad byte of the lines after a line, which an LF ends
-bad_later : (at p : ℕ) (l : Line) (ls : List Line) → WellCut (l ∷ ls) → first_bad (judge_lines (at + length l.bytes + 1) ls) ≡ some p
+bad_later : (at p : ℕ) (l : Line) (ls : List Line) → WellCut (l ∷ ls) → first_bad (judge_lines (at + length l.bytes + 1) ls) ≡ Some p
     → ((k : ℕ) × (p ≡ at + length l.bytes + 1 + k) × NotAllowed (joined ls) k) → (k : ℕ) × (p ≡ at + k) × NotAllowed (joined (l ∷ ls)) k
 unfolding joined judge_lines first_bad
 bad_later at p l ls c e i =
@@ -139,34 +139,34 @@ bad_later at p l ls c e i =
           },
     ))
     (λ (last : (0 < length l.bytes) × (ls ≡ [])).
-    let none_left : none ≡ some p = rw last.1 at e in
+    let none_left : None ≡ Some p = rw last.1 at e in
     let z : ◌≡◌ {A = ℕ} 0 1 = cc in
     absurd (zero_ne_one z))
     c.1
 
-bad_in : (ls : List Line) → WellCut ls → (at p : ℕ) → first_bad (judge_lines at ls) ≡ some p → (k : ℕ) × (p ≡ at + k) × NotAllowed (joined ls) k
+bad_in : (ls : List Line) → WellCut ls → (at p : ℕ) → first_bad (judge_lines at ls) ≡ Some p → (k : ℕ) × (p ≡ at + k) × NotAllowed (joined ls) k
 unfolding judge_lines first_bad joined
 bad_in [] c at p e = let z : ◌≡◌ {A = ℕ} 0 1 = cc in absurd (zero_ne_one z)
 bad_in (l ∷ ls) c at p e = go l ls c at p (judge at l) refl e (bad_in ls c.2 (at + length l.bytes + 1) p)
   where
-    go : (l : Line) (ls : List Line) → WellCut (l ∷ ls) → (at p : ℕ) (j : Judged) → judge at l ≡ j → first_bad (j ∷ judge_lines (at + length l.bytes + 1) ls) ≡ some p
-        → (first_bad (judge_lines (at + length l.bytes + 1) ls) ≡ some p → (k : ℕ) × (p ≡ at + length l.bytes + 1 + k) × NotAllowed (joined ls) k)
+    go : (l : Line) (ls : List Line) → WellCut (l ∷ ls) → (at p : ℕ) (j : Judged) → judge at l ≡ j → first_bad (j ∷ judge_lines (at + length l.bytes + 1) ls) ≡ Some p
+        → (first_bad (judge_lines (at + length l.bytes + 1) ls) ≡ Some p → (k : ℕ) × (p ≡ at + length l.bytes + 1 + k) × NotAllowed (joined ls) k)
         → (k : ℕ) × (p ≡ at + k) × NotAllowed (joined (l ∷ ls)) k
     go l ls c at p comment q e i = bad_later at p l ls c e (i e)
     go l ls c at p (row cells) q e i = bad_later at p l ls c e (i e)
     go l ls c at p (bad x) q e i = let y : x ≡ p = cc in bad_here at p l _ c.0 (rw (← y) q)
 
 -- an answer 8 comes from the first bad byte
-letter_only : (o : Option ℕ) (rows : List (List ℕ)) (room p : ℕ) → refuses 8 (p ∷ []) ≡ (refuse_at o 8 then size_rule rows room) → o ≡ some p
+letter_only : (o : Option ℕ) (rows : List (List ℕ)) (room p : ℕ) → refuses 8 (p ∷ []) ≡ (refuse_at o 8 then size_rule rows room) → o ≡ Some p
 unfolding size_rule
-letter_only none rows room p e = absurd (go (among max_height (length rows)) (among max_width (width_of rows)) (leb (width_of rows * length rows) room) (width_of rows ∷ length rows ∷ []) e)
+letter_only None rows room p e = absurd (go (among max_height (length rows)) (among max_width (width_of rows)) (leb (width_of rows * length rows) room) (width_of rows ∷ length rows ∷ []) e)
   where
     go : (s t u : Bool) (vs : List ℕ) → refuses 8 (p ∷ []) ≡ (refuse_unless s 2 then refuse_unless t 1 then refuse_unless u 5 then gives vs) → ⊥
     go true true true vs e = let z : ◌≡◌ {A = ℕ} 0 1 = cc in zero_ne_one z
     go true true false vs e = let z : ◌≡◌ {A = ℕ} 8 5 = cc in omega arith
     go true false u vs e = let z : ◌≡◌ {A = ℕ} 8 1 = cc in omega arith
     go false t u vs e = let z : ◌≡◌ {A = ℕ} 8 2 = cc in omega arith
-letter_only (some q) rows room p e = cc
+letter_only (Some q) rows room p e = cc
 
 pub bad_byte : BadByte
 unfolding read_rule judged

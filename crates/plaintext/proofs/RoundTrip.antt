@@ -2,7 +2,7 @@
 -- Assumes nothing.
 use mathlib.Core.Path.{◌≡◌, refl, sym, ap, ap₂, ◌∙◌}
 use mathlib.Core.Bool.{Bool, true, false, cond}
-use mathlib.Core.Option.{none}
+use Rattle.std.specs.Prelude.{None}
 use mathlib.Core.List.{List, [], ◌∷◌, ◌++◌, map, flat_map, append-nil}
 use Prim.Native.Nat.{ℕ, zero, suc, ◌+◌, ◌*◌, ◌-◌, ◌<◌, ◌≤◌}
 use native.Mathlib.Nat.{not-suc-le-zero, le_of_suc-le-suc, zero-lt-suc, mul-zero}
@@ -82,7 +82,7 @@ judge_rows at (r ∷ rs) a =
     (ap {B = List Judged} (λ js. row r ∷ js) (judge_rows (at + length (line_of r).bytes + 1) rs a.1))
 
 -- ---- judged lines that are all rows
-none_bad : (rs : List (List ℕ)) → first_bad (map row rs) ≡ none
+none_bad : (rs : List (List ℕ)) → first_bad (map row rs) ≡ None
 unfolding first_bad
 none_bad [] = refl
 none_bad (r ∷ rs) = none_bad rs
@@ -164,7 +164,7 @@ round_trip w h board text text' n c front cells cells' r room d =
     let b = taken w h board text text' n c in
     let s = b.size in
     let rows : rows_of (judged (front ++ take n text') (length front)) ≡ board_rows w h board = rw (lines w h board text text' n c front) (rows_back (board_rows w h board)) in
-    let good : first_bad (judged (front ++ take n text') (length front)) ≡ none = rw (lines w h board text text' n c front) (none_bad (board_rows w h board)) in
+    let good : first_bad (judged (front ++ take n text') (length front)) ≡ None = rw (lines w h board text text' n c front) (none_bad (board_rows w h board)) in
     let high = board_high w h board in
     let wide = board_wide w h board s.some_row b.bytes.long in
     let checks : size_check false w h ≡ passed = size_passes s in

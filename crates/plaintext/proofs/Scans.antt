@@ -2,7 +2,7 @@
 -- copied.
 -- Assumes nothing.
 use mathlib.Core.Path.{◌≡◌, refl, sym, ap, ◌∙◌}
-use mathlib.Core.Option.{none, some}
+use Rattle.std.specs.Prelude.{None, Some}
 use mathlib.Core.List.{List, ◌∷◌, ◌++◌, map}
 use Prim.Native.Nat.{ℕ, suc, ◌+◌, ◌*◌, ◌-◌, ◌≤◌, max, zero-le}
 use native.Mathlib.Nat.{mul-suc, mul-zero}
@@ -63,7 +63,7 @@ module _ (text : List ℕ) (at : ℕ) where
     pub passed_end : length text ≤ from → Size width height ≡ measure_of (first_bad (judged text at)) (rows_of (judged text at))
     unfolding first_bad rows_of width_of
     passed_end h =
-        let p : none ≡ first_bad (judged text at) = rw (judged_none text from h) at c.places in
+        let p : None ≡ first_bad (judged text at) = rw (judged_none text from h) at c.places in
         let x : max width 0 ≡ width_of (rows_of (judged text at)) = rw (judged_none text from h) at c.wide in
         let y : height + 0 ≡ length (rows_of (judged text at)) = rw (judged_none text from h) at c.high in
         let w : width_of (rows_of (judged text at)) ≡ width = omega arith in
@@ -88,7 +88,7 @@ module _ (text : List ℕ) (at : ℕ) where
           let z : length r ≡ n = length-map (take n (drop from text)) letter_cell ∙ row_long text from end ends n e in
           record { places = rw s at c.places; wide = omega arith; high = omega arith; few = omega (arith, c.few, ends.forward) }
 
-      pub passed_bad : (p : ℕ) → Bad p ≡ line_kind (kind text from end ends) → first_bad (judged text at) ≡ some p
+      pub passed_bad : (p : ℕ) → Bad p ≡ line_kind (kind text from end ends) → first_bad (judged text at) ≡ Some p
       unfolding first_bad
       passed_bad p e = sym (rw (bad_line text from end ends p e) at c.places)
 

@@ -1,8 +1,7 @@
 -- Document 01, "Plaintext boards and the program": what a text reads as. It is cut into lines, each line is judged, and the rows give
 -- width, height and cells.
 -- Assumes nothing.
-use Rattle.std.specs.Prelude.{◌≡◌, Bool, cond, ◌&&◌, ℕ, ◌+◌, ◌*◌, ◌-◌, max, eqb, leb, length, get_or, take, drop, replicate}
-use Rattle.std.proofs.Math.Option.{Option, none, some}
+use Rattle.std.specs.Prelude.{◌≡◌, Bool, cond, ◌&&◌, ℕ, ◌+◌, ◌*◌, ◌-◌, max, eqb, leb, length, get_or, take, drop, replicate, Option, None, Some}
 use mathlib.Core.List.{List, [], ◌∷◌, ◌++◌, map, flat_map}
 use Rattle.board.specs.Search.{first_not}
 use Rattle.board.specs.Answers.{Answer, gives, refusal_says, ◌then◌, refuse_unless, refuse_at, after}
@@ -38,8 +37,8 @@ letter_at bytes place = is_letter (get_or bytes place 0)
 -- "Other lines are rows of . (dead) and O (live)": a row that starts at a place of the text, by the first place in it that holds no letter.
 -- "a CR elsewhere outside a comment is refusal 8": it is no letter
 abbrev pub judge_row : ℕ → List ℕ → Option ℕ → Judged
-judge_row at bytes none = row (map letter_cell bytes)
-judge_row at bytes (some place) = bad (at + place)
+judge_row at bytes None = row (map letter_cell bytes)
+judge_row at bytes (Some place) = bad (at + place)
 
 -- a line that starts at a place
 unfoldable pub judge : ℕ → Line → Judged
@@ -57,10 +56,10 @@ judged bytes at = judge_lines at (lines_of (drop at bytes))
 -- ---- the judged lines give rows
 -- 8, Letter: "text byte not allowed; with its first place from 0", counted from the start of the caller's bytes
 unfoldable pub first_bad : List Judged → Option ℕ
-first_bad [] = none
+first_bad [] = None
 first_bad (comment ∷ lines) = first_bad lines
 first_bad (row cells ∷ lines) = first_bad lines
-first_bad (bad place ∷ lines) = some place
+first_bad (bad place ∷ lines) = Some place
 
 -- the rows from the top; a comment is none
 unfoldable pub rows_of : List Judged → List (List ℕ)
@@ -101,11 +100,10 @@ unfoldable pub board_over : List (List ℕ) → List ℕ → List ℕ
 board_over rows cells = cells_of (width_of rows) rows ++ drop (width_of rows * length rows) cells
 
 -- an answer in the paper's terms
-abbrev pub read_says : Read → Answer
-read_says (Board width height) = gives (width ∷ height ∷ [])
-read_says (Refused r) = refusal_says r
+abbrev pub read_says : Result Size Refusal → Answer
+read_says = says (λ size. size.width ∷ size.height ∷ [])
 
 -- reading the bytes from a place on answers r, and leaves cells' in the lent cells
-pub record ReadsText (bytes : List ℕ) (at : ℕ) (cells cells' : List ℕ) (r : Read) : Type 0 where
+pub record ReadsText (bytes : List ℕ) (at : ℕ) (cells cells' : List ℕ) (r : Result Size Refusal) : Type 0 where
   pub answers : read_says r ≡ read_rule bytes at (length cells)
   pub leaves : cells' ≡ after (read_rule bytes at (length cells)) (board_over (rows_of (judged bytes at)) cells) cells

@@ -4,38 +4,29 @@
 
 ghost use Rattle.plaintext.specs.Reading.{ReadsText};
 
-use board::{Check, Refusal};
-use scan::Measured;
+use board::Refusal;
 
 mod line;
 mod rows;
 mod scan;
 
-// What reading a text answers: the size of the board.
-#[derive(Clone, Copy)]
-pub enum Read {
-    Board { width: usize, height: usize },
-    Refused(Refusal),
+// The size of a board that is read.
+#[derive(Clone, Copy, Debug, PartialEq, Eq)]
+pub struct Size {
+    pub width: usize,
+    pub height: usize,
 }
 
-// Reads the text that stands from a place of the bytes on, into the first cells. Refusals 8, 2, 1, 5.
-pub fn read_at(text: &[u8], at: usize, cells: &mut [u8]) -> Read
+// Reads the text that stands from a place of the bytes on, into the first cells, and answers the board's size. Refusals 8, 2, 1, 5.
+pub fn read_at(text: &[u8], at: usize, cells: &mut [u8]) -> Result<Size, Refusal>
     ensures { ReadsText text.now at cells.old cells.new result }
 {
-    match scan::measure(text, at) {
-        Measured::Bad(place) => Read::Refused(Refusal::Letter(place)),
-        Measured::Size { width, height } => {
-            if let Check::Refused(r) = board::check_height(height) {
-                return Read::Refused(r);
-            }
-            if let Check::Refused(r) = board::check_width(width) {
-                return Read::Refused(r);
-            }
-            if cells.len() < width * height {
-                return Read::Refused(Refusal::BoardLength);
-            }
-            scan::fill(text, at, width, cells);
-            Read::Board { width, height }
-        }
+    let size = scan::measure(text, at)?;
+    board::check_height(size.height)?;
+    board::check_width(size.width)?;
+    if cells.len() < size.width * size.height {
+        return Err(Refusal::BoardLength);
     }
+    scan::fill(text, at, size.width, cells);
+    Ok(size)
 }

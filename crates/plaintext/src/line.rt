@@ -2,15 +2,9 @@
 ghost use Rattle.std.specs.Prelude.{◌≡◌, ◌<◌, ◌≤◌, length};
 ghost use Rattle.writer.specs.Letters.{is_letter};
 ghost use Rattle.plaintext.specs.Reading.{is_comment, without_cr, letter_at, judge};
-ghost use Rattle.plaintext.specs.Scanning.{first_not_or, no_lf_at, line_between, EndsAt, line_kind};
+ghost use Rattle.plaintext.specs.Scanning.{first_not_or, no_lf_at, line_between, EndsAt, letters_in};
 
-// A comment; a row of so many letters; or a byte that isn't allowed, at a place of the text.
-#[derive(Clone, Copy)]
-pub enum Kind {
-    Comment,
-    Row(usize),
-    Bad(usize),
-}
+use board::Refusal;
 
 // Where the line that starts at a place ends: at its LF, or at the end of the text.
 pub fn line_end(text: &[u8], from: usize) -> usize
@@ -20,35 +14,29 @@ pub fn line_end(text: &[u8], from: usize) -> usize
     from + line_length(&text[from..])
 }
 
-// What the line from a place to its end is.
-pub fn classify(text: &[u8], from: usize, end: usize) -> Kind
+// The letters of the row that the line from a place to its end is; none where it is a comment. Refusal 8, with the place of the first byte that isn't
+// allowed.
+pub fn row_letters(text: &[u8], from: usize, end: usize) -> Result<Option<usize>, Refusal>
     requires { (from ≤ end) × (end ≤ length text.now) }
-    ensures { result ≡ line_kind (judge from (line_between text.now from end)) }
+    ensures { result ≡ letters_in (judge from (line_between text.now from end)) }
 {
     let line = &text[from..end];
     if is_comment(line) {
-        return Kind::Comment;
+        return Ok(None);
     }
     let n = row_length(line, end < text.len());
     let letters = count_letters(&line[..n]);
     if letters < n {
-        return Kind::Bad(from + letters);
+        return Err(Refusal::Letter(from + letters));
     }
-    Kind::Row(n)
+    Ok(Some(n))
 }
 
 // The length of the first line, without its LF.
 fn line_length(text: &[u8]) -> usize
     ensures { result ≡ first_not_or (no_lf_at text.now) (length text.now) }
 {
-    let mut i = 0;
-    while i < text.len() {
-        if text[i] == b'\n' {
-            return i;
-        }
-        i += 1;
-    }
-    i
+    text.iter().position(|byte| *byte == b'\n').unwrap_or(text.len())
 }
 
 fn is_comment(line: &[u8]) -> bool
@@ -78,14 +66,7 @@ fn row_length(line: &[u8], ended: bool) -> usize
 fn count_letters(row: &[u8]) -> usize
     ensures { result ≡ first_not_or (letter_at row.now) (length row.now) }
 {
-    let mut i = 0;
-    while i < row.len() {
-        if !is_letter(row[i]) {
-            return i;
-        }
-        i += 1;
-    }
-    i
+    row.iter().position(|byte| !is_letter(*byte)).unwrap_or(row.len())
 }
 
 fn is_letter(b: u8) -> bool

@@ -8,10 +8,8 @@ pub fn fill_row(w: usize, row: &[u8], cells: &mut [u8])
     requires { (length row.now ≤ w) × (w ≤ length cells.old) }
     ensures { cells.new ≡ filled w (map letter_cell row.now) ++ drop w cells.old }
 {
-    let mut k = 0;
-    while k < w {
+    for k in 0..w {
         cells[k] = if k < row.len() { cell(row[k]) } else { 0 };
-        k += 1;
     }
 }
 

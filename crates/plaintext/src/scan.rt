@@ -3,17 +3,11 @@ ghost use Rattle.std.specs.Prelude.{◌≡◌, ◌*◌, ◌≤◌, max, length};
 ghost use Rattle.plaintext.specs.Reading.{judged, first_bad, rows_of, width_of, board_over};
 ghost use Rattle.plaintext.specs.Scanning.{measure_of};
 
-use crate::line::Kind;
-use crate::{line, rows};
+use crate::{Size, line, rows};
+use board::Refusal;
 
-#[derive(Clone, Copy)]
-pub enum Measured {
-    Bad(usize),
-    Size { width: usize, height: usize },
-}
-
-// The place of the first byte that isn't allowed, or the size of the board.
-pub fn measure(text: &[u8], at: usize) -> Measured
+// The size of the board that a text holds. Refusal 8, with the place of the first byte that isn't allowed.
+pub fn measure(text: &[u8], at: usize) -> Result<Size, Refusal>
     ensures { result ≡ measure_of (first_bad (judged text.now at)) (rows_of (judged text.now at)) }
 {
     let mut width = 0;
@@ -23,20 +17,12 @@ pub fn measure(text: &[u8], at: usize) -> Measured
         let from = next;
         let end = line::line_end(text, from);
         next = end + 1;
-        match line::classify(text, from, end) {
-            Kind::Comment => {
-                continue;
-            }
-            Kind::Row(n) => {
-                width = greater(width, n);
-                height += 1;
-            }
-            Kind::Bad(place) => {
-                return Measured::Bad(place);
-            }
+        if let Some(letters) = line::row_letters(text, from, end)? {
+            width = width.max(letters);
+            height += 1;
         }
     }
-    Measured::Size { width, height }
+    Ok(Size { width, height })
 }
 
 // Writes the rows of a text as cells of a board of width w.
@@ -50,16 +36,10 @@ pub fn fill(text: &[u8], at: usize, w: usize, cells: &mut [u8])
         let from = next;
         let end = line::line_end(text, from);
         next = end + 1;
-        let Kind::Row(n) = line::classify(text, from, end) else {
+        let Ok(Some(n)) = line::row_letters(text, from, end) else {
             continue;
         };
         rows::fill_row(w, &text[from..from + n], &mut cells[k..]);
         k += w;
     }
-}
-
-fn greater(a: usize, b: usize) -> usize
-    ensures { result ≡ max a b }
-{
-    if a < b { b } else { a }
 }

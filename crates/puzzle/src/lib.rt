@@ -9,8 +9,6 @@ ghost use Rattle.puzzle.specs.Answering.{SolvesGrid, AnswersText, AnswersAny};
 
 use board::Refusal;
 use job_kind::Kind;
-use plaintext::Read;
-use runner::Solved;
 
 mod printing;
 
@@ -75,12 +73,12 @@ fn answer_text(
         return printing::put_refusal(Refusal::LongText, output);
     }
     match reader::read_text(text, 0, givens) {
-        Read::Refused(r) => printing::put_refusal(r, output),
-        Read::Board { width, height } => {
-            let n = width * height;
+        Err(r) => printing::put_refusal(r, output),
+        Ok(size) => {
+            let n = size.width * size.height;
             solve_cells(
-                width,
-                height,
+                size.width,
+                size.height,
                 &mut givens[..n],
                 table,
                 &mut board[..n],
@@ -104,9 +102,9 @@ fn solve_cells(
 {
     give_live(cells);
     match runner::solve(Kind::TwoLayers, rule::conway(), w, h, cells, table, board) {
-        Solved::Best(score) => printing::put_best(w, h, board, score, output),
-        Solved::Infeasible => printing::put(b"!none\n", output),
-        Solved::Refused(r) => printing::put_refusal(r, output),
+        Ok(Some(score)) => printing::put_best(w, h, board, score, output),
+        Ok(None) => printing::put(b"!none\n", output),
+        Err(r) => printing::put_refusal(r, output),
     }
 }
 
@@ -114,8 +112,8 @@ fn solve_cells(
 fn give_live(cells: &mut [u8])
     ensures { cells.new ≡ map given_of cells.old }
 {
-    for i in 0..cells.len() {
-        cells[i] = given(cells[i]);
+    for cell in cells.iter_mut() {
+        *cell = given(*cell);
     }
 }
 

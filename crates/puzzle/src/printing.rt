@@ -6,7 +6,6 @@ ghost use Rattle.puzzle.specs.Sizes.{output_room};
 ghost use Rattle.puzzle.specs.Printing.{digit_byte, decimal, line, refused_line, best_text, Prints};
 
 use board::Refusal;
-use writer::Written;
 
 // `!` and the score, then the board.
 pub fn put_best(w: usize, h: usize, board: &[u8], score: usize, output: &mut [u8]) -> usize
@@ -15,8 +14,8 @@ pub fn put_best(w: usize, h: usize, board: &[u8], score: usize, output: &mut [u8
 {
     let from = put_line(b"!", score, output);
     match writer::write(w, h, board, &mut output[from..]) {
-        Written::Length(letters) => from + letters,
-        Written::Refused(_) => from,
+        Ok(letters) => from + letters,
+        Err(_) => from,
     }
 }
 
@@ -43,11 +42,8 @@ pub fn put(bytes: &[u8], output: &mut [u8]) -> usize
     requires { length bytes.now ≤ length output.old }
     ensures { Prints bytes.now output.old result output.new }
 {
-    let n = bytes.len();
-    for i in 0..n {
-        output[i] = bytes[i];
-    }
-    n
+    output[..bytes.len()].copy_from_slice(bytes);
+    bytes.len()
 }
 
 // A number below 1,000 in decimal.

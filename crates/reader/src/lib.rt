@@ -4,7 +4,8 @@
 ghost use Rattle.std.specs.Prelude.{◌≡◌};
 ghost use Rattle.plaintext.specs.Reading.{ReadsText};
 
-use plaintext::Read;
+use board::Refusal;
+use plaintext::Size;
 
 #[derive(Clone, Copy)]
 pub struct Reader<'a> {
@@ -20,14 +21,14 @@ pub fn new<'a>(text: &'a [u8], at: usize) -> Reader<'a>
 }
 
 // Reads the board that stands from the reader's place on, into the first cells. Refusals 8, 2, 1, 5.
-pub fn read<'a, 'b>(r: Reader<'a>, cells: &'b mut [u8]) -> Read
+pub fn read<'a, 'b>(r: Reader<'a>, cells: &'b mut [u8]) -> Result<Size, Refusal>
     ensures { ReadsText r.entry.text.now r.entry.at cells.old cells.new result }
 {
     plaintext::read_at(r.text, r.at, cells)
 }
 
 // The same of bytes and a place, through a reader made here: for callers that hold no reader.
-pub fn read_text(text: &[u8], at: usize, cells: &mut [u8]) -> Read
+pub fn read_text(text: &[u8], at: usize, cells: &mut [u8]) -> Result<Size, Refusal>
     ensures { ReadsText text.now at cells.old cells.new result }
 {
     read(new(text, at), cells)

@@ -2,7 +2,7 @@
 // `table` has a rule's next states for the 512 patterns of 3 by 3 cells.
 #![tactic(auto)]
 
-use board::{Check, Refusal};
+use board::Refusal;
 
 pub mod table;
 
@@ -28,28 +28,28 @@ pub fn conway() -> Rule
 }
 
 // 13: 0 is no birth count, and no count is above 8.
-pub fn check_rule(rule: Rule) -> Check
+#[tactic(auto, unfolding(crate::specs::Rule::rule_check))]
+pub fn check_rule(rule: Rule) -> Result<(), Refusal>
     ensures { check_says result ≡ rule_check rule }
 {
     if rule.births % 2 != 0 {
-        return Check::Refused(Refusal::Rule);
+        return Err(Refusal::Rule);
     }
     if 511 < rule.births {
-        return Check::Refused(Refusal::Rule);
+        return Err(Refusal::Rule);
     }
     if 511 < rule.survivals {
-        return Check::Refused(Refusal::Rule);
+        return Err(Refusal::Rule);
     }
-    Check::Passed
+    Ok(())
 }
 
 // 1, 2, 13: the size by how rows are held, then the rule.
-pub fn check(halves: bool, rule: Rule, w: usize, h: usize) -> Check
+#[tactic(auto, unfolding(crate::specs::Rule::grid_check))]
+pub fn check(halves: bool, rule: Rule, w: usize, h: usize) -> Result<(), Refusal>
     ensures { check_says result ≡ grid_check halves rule w h }
 {
-    if let Check::Refused(r) = board::check_size(halves, w, h) {
-        return Check::Refused(r);
-    }
+    board::check_size(halves, w, h)?;
     check_rule(rule)
 }
 

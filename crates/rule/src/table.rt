@@ -5,7 +5,7 @@ ghost use Rattle.board.specs.Answers.{check_says};
 ghost use Rattle.rule.specs.Rule.{Holds, Conway, has_count, live_around, next_under, table_of, generate_rule, generate_writes};
 
 use crate::Rule;
-use board::{Check, Refusal};
+use board::Refusal;
 
 const NEXT: [u8; 512] = [
     0, 0, 0, 0, 0, 0, 0, 1, // pattern 7
@@ -48,18 +48,17 @@ pub fn of(rule: Rule) -> [u8; 512]
 }
 
 // The generator: fills a table of exactly 512 entries from a rule. Refusals 13, 6.
-pub fn generate(rule: Rule, table: &mut [u8]) -> Check
+#[tactic(auto, unfolding(crate::specs::Rule::generate_rule, crate::specs::Rule::generate_writes))]
+pub fn generate(rule: Rule, table: &mut [u8]) -> Result<(), Refusal>
     ensures { (check_says result ≡ generate_rule rule (length table.old)) ×
         (table.new ≡ generate_writes rule table.old) }
 {
-    if let Check::Refused(r) = crate::check_rule(rule) {
-        return Check::Refused(r);
-    }
+    crate::check_rule(rule)?;
     if table.len() != 512 {
-        return Check::Refused(Refusal::ShortTable);
+        return Err(Refusal::ShortTable);
     }
     fill(rule, table);
-    Check::Passed
+    Ok(())
 }
 
 // Writes the 512 entries.
@@ -67,10 +66,8 @@ fn fill(rule: Rule, table: &mut [u8])
     requires { length table.old ≡ 512 }
     ensures { table.new ≡ table_of rule }
 {
-    let mut p = 0;
-    while p < table.len() {
+    for p in 0..table.len() {
         table[p] = next_of(rule, p);
-        p += 1;
     }
 }
 

@@ -3,7 +3,7 @@
 use mathlib.Core.Path.{◌≡◌, refl, ◌∙◌, sym, ap}
 use mathlib.Core.Bool.{Bool, true, false, ◌&&◌}
 use mathlib.Core.List.{List}
-use mathlib.Core.Option.{Option, none, some}
+use Rattle.std.specs.Prelude.{Option, None, Some}
 use Prim.Native.Nat.{ℕ, zero, suc, ◌+◌, ◌^◌, ◌<◌, ◌≤◌}
 use native.Mathlib.Nat.{add-zero}
 use native.Mathlib.Numerals.{add-one}
@@ -46,22 +46,22 @@ module _ (want : Want) (next : ℕ → ℕ) (w : ℕ) (givens : List ℕ) (at a 
   offers = offer G 0 a b read
 
   -- ---- a candidate that offers nothing, and one that offers something
-  pub offer_apart : (x j : ℕ) → j < w + 2 → turns x j ≡ false → offers x ≡ none
+  pub offer_apart : (x j : ℕ) → j < w + 2 → turns x j ≡ false → offers x ≡ None
   unfolding steps_to
   offer_apart x j l e = rw (all_false (turns x) (w + 2) j l e)
 
-  pub offer_barred : (x : ℕ) → row_kept w marks at (row_for want w x) ≡ false → offers x ≡ none
+  pub offer_barred : (x : ℕ) → row_kept w marks at (row_for want w x) ≡ false → offers x ≡ None
   offer_barred x e = rw (e, and_false (steps x))
 
-  pub offer_absent : (x : ℕ) → want.limit < read x → offers x ≡ none
+  pub offer_absent : (x : ℕ) → want.limit < read x → offers x ≡ None
   offer_absent x l = go (steps x && row_kept w marks at (row_for want w x))
     where
-      go : (t : Bool) → offer_if G t 0 read x ≡ none
+      go : (t : Bool) → offer_if G t 0 read x ≡ None
       go true = rw (lt-leb (read x) want.limit l)
       go false = refl
 
   pub offer_sum : (x : ℕ) → steps x ≡ true → row_kept w marks at (row_for want w x) ≡ true → read x ≤ want.limit
-      → offers x ≡ some (row_worth w marks at (row_for want w x) + read x)
+      → offers x ≡ Some (row_worth w marks at (row_for want w x) + read x)
   offer_sum x p q l = rw (p, q, le-leb (read x) want.limit l)
 
   -- ---- what the loop holds: the best of the candidates below c
@@ -76,15 +76,15 @@ module _ (want : Want) (next : ℕ → ℕ) (w : ℕ) (givens : List ℕ) (at a 
     scan_next = rw (add-one c, scan_more (compared want) offers c, H.is)
 
     -- a candidate that offers nothing
-    pub held_pass : offers c ≡ none → Held (c + 1) held
+    pub held_pass : offers c ≡ None → Held (c + 1) held
     held_pass e = record { is = sym (rw (scan_next, e)) }
 
     -- one that offers x
-    pub held_next : {x : ℕ} (r : Best) → offers c ≡ some x → choice_of r ≡ consider (compared want) c (some x) (choice_of held) → Held (c + 1) r
+    pub held_next : {x : ℕ} (r : Best) → offers c ≡ Some x → choice_of r ≡ consider (compared want) c (Some x) (choice_of held) → Held (c + 1) r
     held_next r e q = record { is = q ∙ sym (scan_next ∙ ap (λ (o : Option ℕ). consider (compared want) c o (choice_of held)) e) }
 
   -- a run of candidates that offer nothing
-  pub held_skip : {c : ℕ} {held : Best} (d : ℕ) → Held c held → ((y : ℕ) → c ≤ y → y < c + d → offers y ≡ none) → Held (c + d) held
+  pub held_skip : {c : ℕ} {held : Best} (d : ℕ) → Held c held → ((y : ℕ) → c ≤ y → y < c + d → offers y ≡ None) → Held (c + d) held
   held_skip {c} {held} zero H f = rw (add-zero c) H
   held_skip {c} {held} (suc d) H f =
       let p : Held (c + d) held = held_skip d H (λ y l u. f y l (omega arith)) in

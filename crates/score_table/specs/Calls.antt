@@ -1,7 +1,7 @@
 -- What the functions answer and leave, for every input: the filling of entries, and the choice of a row, by the numbers of a task of crate
 -- `elimination`; and what a row earns.
 -- Assumes nothing.
-use Rattle.std.specs.Prelude.{Bool, true, false, cond, ◌&&◌, List, ℕ, suc, ◌+◌, ◌-◌, ◌*◌, ◌^◌, eqb, leb, ltb, length}
+use Rattle.std.specs.Prelude.{Bool, true, false, cond, ◌&&◌, List, ℕ, suc, ◌+◌, ◌-◌, ◌*◌, ◌^◌, eqb, leb, ltb, length, Option, None, Some}
 use Rattle.board.specs.Boards.{max_height, width_fits}
 use Rattle.elimination.specs.Candidates.{Choice, nothing, chosen}
 use Rattle.elimination.specs.Kind.{choose}
@@ -9,7 +9,7 @@ use Rattle.elimination.specs.Table.{reads, fill_entries}
 use Rattle.score_table.specs.Rows.{row_worth, row_gain, marks_of, digits_of, row_for}
 use Rattle.score_table.specs.ScoreTable.{absent, kind_for}
 use Rattle.score_table.specs.declared.Want.{Want}
-use Rattle.score_table.specs.declared.Picked.{Picked}
+use Rattle.board.specs.declared.ChosenRow.{ChosenRow}
 
 -- the givens are those of a grid of a width that fits how rows are held, and of at most 60 rows
 unfoldable pub grid_fits : Bool → ℕ → ℕ → List ℕ → Bool
@@ -51,6 +51,6 @@ row_picked want next w h r source above last givens table =
     (choose (kind_for want next w h givens) (h - suc r) above last (reads (kind_for want next w h givens) table source last)) nothing
 
 -- the answer: the row chosen, and what it is worth
-abbrev pub picked_of : Want → ℕ → List ℕ → ℕ → Choice ℕ → Picked
-picked_of want w givens r nothing = Picked.Nothing
-picked_of want w givens r (chosen c n) = Picked.Row c (row_worth w (marks_of want.predecessor givens) (r * w) (row_for want w c))
+abbrev pub picked_of : Want → ℕ → List ℕ → ℕ → Choice ℕ → Option ChosenRow
+picked_of want w givens r nothing = None
+picked_of want w givens r (chosen c n) = Some (record { row = c; worth = row_worth w (marks_of want.predecessor givens) (r * w) (row_for want w c) })

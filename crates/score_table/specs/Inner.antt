@@ -1,6 +1,6 @@
 -- What the inner functions are lent and answer, in the terms of the score table.
 -- Assumes nothing.
-use Rattle.std.specs.Prelude.{◌≡◌, Bool, List, ℕ, ◌+◌, ◌*◌, ◌-◌, ◌/◌, ◌%◌, ◌^◌, ◌≤◌, ◌<◌, eqb, length, get_or}
+use Rattle.std.specs.Prelude.{◌≡◌, Bool, List, ℕ, ◌+◌, ◌*◌, ◌-◌, ◌/◌, ◌%◌, ◌^◌, ◌≤◌, ◌<◌, eqb, length, get_or, Option, None, Some}
 use Rattle.board.specs.Boards.{max_height, Width}
 use Rattle.elimination.specs.Candidates.{Choice, nothing, chosen, Comparison}
 use Rattle.elimination.specs.Kind.{Kind, entry}
@@ -11,7 +11,6 @@ use Rattle.score_table.specs.Rows.{digits_of}
 use Rattle.score_table.specs.ScoreTable.{rules, kind_for}
 use Rattle.score_table.specs.declared.Want.{Want}
 use Rattle.score_table.specs.declared.best.Best.{Best}
-use Rattle.score_table.specs.declared.best.Best.TheVariants.{Nothing, Row}
 
 -- ---- columns 0 to w + 1 of a over b, which has to become t
 -- the digits that a and b give to the pattern of a column, and before the nine the cell of t
@@ -31,9 +30,9 @@ unfoldable pub skip_to : ℕ → ℕ → ℕ → ℕ
 skip_to bits x j = (x / 2 ^ (bits - (j + 1)) + 1) * 2 ^ (bits - (j + 1))
 
 -- what the search for the best row found, as a choice
-abbrev pub choice_of : Best → Choice ℕ
-choice_of Nothing = nothing
-choice_of (Row c n) = chosen c n
+abbrev pub choice_of : Option Best → Choice ℕ
+choice_of None = nothing
+choice_of (Some best) = chosen best.row best.sum
 
 -- how rows are compared
 abbrev pub compared : Want → Comparison ℕ
@@ -44,10 +43,10 @@ abbrev pub kind_by : Want → (ℕ → ℕ) → ℕ → ℕ → List ℕ → ℕ
 kind_by want next w t givens at = sum_kind (rules want (steps_to next w) (λ n b. t) w (λ k. at) givens)
 
 -- the best row is the rule's choice; a row that is found is one, and its number is at most the limit and a row's worth
-pub record Found (want : Want) (w : ℕ) (r : Best) (wanted : Choice ℕ) : Type 0 where
+pub record Found (want : Want) (w : ℕ) (r : Option Best) (wanted : Choice ℕ) : Type 0 where
   pub is : choice_of r ≡ wanted
-  pub row_lt : (c n : ℕ) → r ≡ Best.Row c n → c < 2 ^ digits_of want w
-  pub number_le : (c n : ℕ) → r ≡ Best.Row c n → n ≤ want.limit + w
+  pub row_lt : (best : Best) → r ≡ Some best → best.row < 2 ^ digits_of want w
+  pub number_le : (best : Best) → r ≡ Some best → best.sum ≤ want.limit + w
 
 -- ---- the filling of entries
 -- the entries of a layer, by the binary digits of a row's number

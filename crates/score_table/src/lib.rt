@@ -12,7 +12,7 @@ ghost use Rattle.rule.specs.Rule.{entry_of};
 ghost use Rattle.score_table.specs.ScoreTable.{want_of};
 ghost use Rattle.score_table.specs.Calls.{grid_fits, call_fits, layer_fits, fill_fits, fill_writes, gain_of, row_picked, picked_of};
 
-use best::Best;
+use board::ChosenRow;
 
 // The number that stands for none.
 pub const NONE: u16 = 65535;
@@ -32,11 +32,25 @@ pub struct Want {
     pub predecessor: bool,
 }
 
-// A row that is chosen, and its worth.
+// A grid whose entries are filled and whose rows are chosen: how cells change, by the 512 patterns, what is wanted, its size, and its givens.
 #[derive(Clone, Copy)]
-pub enum Picked {
-    Nothing,
-    Row { row: usize, worth: usize },
+pub struct Grid<'a> {
+    pub next: &'a [u8; 512],
+    pub want: Want,
+    pub width: usize,
+    pub height: usize,
+    pub givens: &'a [u8],
+}
+
+// Entries to fill, `count` of them from entry `from` on, of the layer that starts at `target` and has `after` rows after it, by the layer that starts at
+// `source`.
+#[derive(Clone, Copy, Debug, PartialEq, Eq)]
+pub struct Entries {
+    pub after: usize,
+    pub source: usize,
+    pub target: usize,
+    pub from: usize,
+    pub count: usize,
 }
 
 // What is wanted: the most free live cells, among equals the greatest row; or with a target the fewest live cells, among equals the smallest row. A number
@@ -55,75 +69,55 @@ pub fn want_of(halves: bool, target: bool) -> Want
     }
 }
 
-// Fills entries of the layer that starts at `target` and has `after` rows after it, by the layer that starts at `source`: `count` of them from entry
-// `from` on. Where there are no such entries, the memory isn't of a grid of w by h cells, or a number could be taken for none, nothing is written.
-pub fn fill(
-    next: &[u8; 512],
-    want: Want,
-    w: usize,
-    h: usize,
-    after: usize,
-    source: usize,
-    target: usize,
-    from: usize,
-    count: usize,
-    givens: &[u8],
-    table: &mut [u16],
-)
-    ensures { table.new ≡ fill_writes want (entry_of next.now) w h after source target from count givens.now table.old }
+// Fills entries. Where there are no such entries, the memory isn't of a grid of its width and height, or a number could be taken for none, nothing is written.
+pub fn fill(grid: Grid<'_>, entries: Entries, table: &mut [u16])
+    ensures { table.new ≡ fill_writes grid.want (entry_of grid.next.now) grid.width grid.height entries.after entries.source entries.target entries.from entries.count grid.givens.now table.old }
 {
-    let n = table.len();
-    if !fill_fits(want, w, h, after, source, target, from, count, givens, n) {
-        return;
+    if fill_fits(grid, entries, table.len()) {
+        filling::write_entries(grid, entries, table);
     }
-    filling::write_entries(
-        next, want, w, h, after, source, target, from, count, givens, table,
-    );
 }
 
 // Chooses the row below `above` and `last` that has r rows above it, by its layer, which starts at `source`. Where there is no such row, the
-// memory isn't of a grid of w by h cells, or a number could be taken for none, it gives nothing.
+// memory isn't of a grid of its width and height, or a number could be taken for none, it gives none.
 pub fn choose_row(
-    next: &[u8; 512],
-    want: Want,
-    w: usize,
-    h: usize,
+    grid: Grid<'_>,
     r: usize,
     source: usize,
     above: usize,
     last: usize,
-    givens: &[u8],
     table: &[u16],
-) -> Picked
-    ensures { result ≡ picked_of want w givens.now r (row_picked want (entry_of next.now) w h r source above last givens.now table.now) }
+) -> Option<ChosenRow>
+    ensures { result ≡ picked_of grid.want grid.width grid.givens.now r (row_picked grid.want (entry_of grid.next.now) grid.width grid.height r source above last grid.givens.now table.now) }
 {
-    if !fits(want, w, h, givens) {
-        return Picked::Nothing;
+    if !fits(grid) {
+        return None;
     }
-    if h <= r {
-        return Picked::Nothing;
+    if grid.height <= r {
+        return None;
     }
+    let w = grid.width;
+    let want = grid.want;
     let bits = board::row_digits(want.halves, w);
     if !layer_fits(bits, table.len(), source) {
-        return Picked::Nothing;
+        return None;
     }
     let n = rows::row_codes(bits);
     if n <= above {
-        return Picked::Nothing;
+        return None;
     }
     if n <= last {
-        return Picked::Nothing;
+        return None;
     }
     let at = r * w;
     let first = source + last * n;
-    let t = rows::target_row(want.predecessor, w, givens, r, rows::row_for(want, w, last));
-    match best::best_row(next, want, w, above, last, t, givens, at, table, first) {
-        Best::Nothing => Picked::Nothing,
-        Best::Row(row, _) => Picked::Row {
-            row,
-            worth: rows::row_worth(want.predecessor, w, givens, at, rows::row_for(want, w, row)),
-        },
-    }
+    let t = rows::target_row(want.predecessor, w, grid.givens, r, rows::row_for(want, w, last));
+    let best = best::best_row(grid, above, last, t, at, table, first)?;
+    let row = best.row;
+    Some(ChosenRow {
+        row,
+        worth: rows::row_worth(want.predecessor, w, grid.givens, at, rows::row_for(want, w, row)),
+    })
 }
 
 // One more than what a row earns as the one with r rows above it, by the last w digits of its number; 0 where it doesn't keep the givens there, or the
@@ -158,13 +152,14 @@ fn grid_fits(halves: bool, w: usize, h: usize, givens: &[u8]) -> bool
 }
 
 // Whether they are, and no number of an entry could be taken for none.
-fn fits(want: Want, w: usize, h: usize, givens: &[u8]) -> bool
-    ensures { result ≡ call_fits want w h givens.now }
+fn fits(grid: Grid<'_>) -> bool
+    ensures { result ≡ call_fits grid.want grid.width grid.height grid.givens.now }
 {
-    if !grid_fits(want.halves, w, h, givens) {
+    let want = grid.want;
+    if !grid_fits(want.halves, grid.width, grid.height, grid.givens) {
         return false;
     }
-    want.limit < NONE as usize - w
+    want.limit < NONE as usize - grid.width
 }
 
 // Whether the layer that starts at a place lies within a table of n entries, where a row's number has so many binary digits.
@@ -180,39 +175,29 @@ fn layer_fits(bits: usize, n: usize, at: usize) -> bool
 }
 
 // Whether there are such entries to fill in a table of n entries.
-pub fn fill_fits(
-    want: Want,
-    w: usize,
-    h: usize,
-    after: usize,
-    source: usize,
-    target: usize,
-    from: usize,
-    count: usize,
-    givens: &[u8],
-    n: usize,
-) -> bool
-    ensures { result ≡ fill_fits want w h after source target from count givens.now n }
+pub fn fill_fits(grid: Grid<'_>, entries: Entries, n: usize) -> bool
+    ensures { result ≡ fill_fits grid.want grid.width grid.height entries.after entries.source entries.target entries.from entries.count grid.givens.now n }
 {
-    if !fits(want, w, h, givens) {
+    if !fits(grid) {
         return false;
     }
-    if h <= after {
+    if grid.height <= entries.after {
         return false;
     }
-    let bits = board::row_digits(want.halves, w);
+    let want = grid.want;
+    let bits = board::row_digits(want.halves, grid.width);
     let q = filling::layer_size(bits);
-    if q < count {
+    if q < entries.count {
         return false;
     }
-    if q - count < from {
+    if q - entries.count < entries.from {
         return false;
     }
-    if !layer_fits(bits, n, target) {
+    if !layer_fits(bits, n, entries.target) {
         return false;
     }
-    if after == 0 {
+    if entries.after == 0 {
         return true;
     }
-    layer_fits(bits, n, source)
+    layer_fits(bits, n, entries.source)
 }

@@ -3,7 +3,7 @@
 use mathlib.Core.Path.{◌≡◌, refl, sym, ◌∙◌, ap, ap₂, subst}
 use mathlib.Core.Bool.{true}
 use mathlib.Core.List.{List, []}
-use mathlib.Core.Option.{none}
+use Rattle.std.specs.Prelude.{None}
 use Prim.Native.Nat.{ℕ, zero, suc, ◌+◌, ◌*◌, ◌-◌, ◌^◌, ◌≤◌, ◌<◌}
 use native.Mathlib.Omega.{arith}
 use Rattle.board.specs.Answers.{Answer, refuses}
@@ -71,7 +71,7 @@ module _ (j : Job) (g t β : List ℕ) where
   unit_choose r source m p = ap (λ (o : Task). mark_step grids (mark_of j.stage) o now) p ∙ ap (λ (n : ℕ). mark_step grids n (row r source) now) m
 
   -- an ended job stays, whatever is left of the allowance
-  unit_ended : job_fits j ≡ true → task_due j ≡ none → unit_of g now ≡ next now
+  unit_ended : job_fits j ≡ true → task_due j ≡ None → unit_of g now ≡ next now
   unfolding unit_of unit_by
   unit_ended f e = go (mark_of j.stage) refl
     where
@@ -79,7 +79,7 @@ module _ (j : Job) (g t β : List ℕ) where
       go zero z = absurd (due_none j f e z)
       go (suc m) z = rw z
 
-  pub works_over : job_fits j ≡ true → task_due j ≡ none → (x : Answer) → x ≡ stage_says j.stage → (n : ℕ) → record { answer = x; state = now } ≡ works_on grid g n now
+  pub works_over : job_fits j ≡ true → task_due j ≡ None → (x : Answer) → x ≡ stage_says j.stage → (n : ℕ) → record { answer = x; state = now } ≡ works_on grid g n now
   works_over f e x q n = rw q (sym (works_still grid g n now (unit_ended f e)))
 
 -- a row, with r rows above it

@@ -3,7 +3,7 @@
 // them, over any leftovers in the lent memory.
 #![tactic(auto)]
 
-use board::{Check, Refusal};
+use board::Refusal;
 use job::Job;
 
 mod choosing;
@@ -12,21 +12,20 @@ mod working;
 
 ghost use Rattle.solver.specs.Calls.{Works};
 
-// What a working call answers.
-#[derive(Clone, Copy)]
+// How far a working call brings its job.
+#[derive(Clone, Copy, Debug, PartialEq, Eq)]
 pub enum Status {
     Unfinished,
     // The score: the live cells of the board that were free, with a target all its live cells.
     Finished(usize),
     Infeasible,
-    Refused(Refusal),
 }
 
 // A working call's answer, always with the job.
 #[derive(Clone, Copy)]
 pub struct Worked {
     pub job: Job,
-    pub status: Status,
+    pub status: Result<Status, Refusal>,
 }
 
 // Does units of a job of any kind until the allowance or the job is spent, over a board of w × h bytes and a table of h × 4^w entries or more, or of
@@ -36,10 +35,10 @@ pub fn work(job: Job, givens: &[u8], table: &mut [u16], board: &mut [u8], allowa
     ensures { Works job givens.now table.old board.old allowance result table.new board.new }
 {
     match working::check_work(job, givens, table, board) {
-        Check::Refused(r) => Worked {
+        Err(r) => Worked {
             job,
-            status: Status::Refused(r),
+            status: Err(r),
         },
-        Check::Passed => working::work_on(job, givens, table, board, allowance),
+        Ok(()) => working::work_on(job, givens, table, board, allowance),
     }
 }

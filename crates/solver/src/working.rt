@@ -8,50 +8,34 @@ ghost use Rattle.third_demand.specs.Units.{grid};
 ghost use Rattle.solver.specs.Calls.{result_of};
 ghost use Rattle.third_demand.specs.Lent.{Lent, lent_state};
 
-use crate::choosing::Stepped;
 use crate::{Status, Worked, choosing, wants};
-use board::{Check, Refusal};
-use job::{Job, Paused, Stage, Task};
+use board::Refusal;
+use job::{Job, Stage, Task};
+use score_table::{Entries, Grid};
 
 // The checks of a working call: 7 as pausing, then 3, 4, 14, 15, 5, 6; with a target 3, 4, 5, 6.
-pub fn check_work(job: Job, givens: &[u8], table: &[u16], board: &[u8]) -> Check
+pub fn check_work(job: Job, givens: &[u8], table: &[u16], board: &[u8]) -> Result<(), Refusal>
     ensures { check_says result ≡ work_check grid job givens.now table.now board.now }
 {
-    if let Paused::Refused(r) = job.pause() {
-        return Check::Refused(r);
-    }
+    job.pause()?;
     let kind = job.kind;
     let w = job.width;
     let h = job.height;
-    if let Check::Refused(r) = job_kind::check_read(kind, job.rule, w, h, givens) {
-        return Check::Refused(r);
-    }
+    job_kind::check_read(kind, job.rule, w, h, givens)?;
     if !board::has_length(board, w, h) {
-        return Check::Refused(Refusal::BoardLength);
+        return Err(Refusal::BoardLength);
     }
     board::check_table(kind.row_digits(w), kind.layers(h), table)
 }
 
 // The answer for a job in a stage.
 fn status_of(stage: Stage) -> Status
-    ensures { status_says result ≡ stage_says stage }
+    ensures { status_says (Ok result) ≡ stage_says stage }
 {
     match stage {
-        Stage::Filling {
-            above: _,
-            last: _,
-            live: _,
-        } => Status::Unfinished,
-        Stage::Choosing {
-            above: _,
-            last: _,
-            live: _,
-        } => Status::Unfinished,
-        Stage::Finished {
-            above: _,
-            last: _,
-            score,
-        } => Status::Finished(score),
+        Stage::Filling { .. } => Status::Unfinished,
+        Stage::Choosing { .. } => Status::Unfinished,
+        Stage::Finished { score, .. } => Status::Finished(score),
         Stage::Infeasible => Status::Infeasible,
     }
 }
@@ -62,8 +46,7 @@ fn entries_now(digits: usize, entry: usize, left: usize) -> usize
     requires { (digits ≤ max_width) × (entry < 4 ^ digits) }
     ensures { result ≡ min (4 ^ digits - entry) left }
 {
-    let rest = board::table_size(digits, 1) - entry;
-    if rest < left { rest } else { left }
+    left.min(board::table_size(digits, 1) - entry)
 }
 
 // The units of a working call that passed its checks: entries of a layer all at once, rows one by one.
@@ -79,49 +62,51 @@ pub fn work_on(
 {
     let rule = start.rule;
     let next = rule::table::of(rule);
+    let grid = Grid {
+        next: &next,
+        want: wants::want_by(start.kind),
+        width: start.width,
+        height: start.height,
+        givens,
+    };
     let mut job = start;
     let mut left = allowance as usize;
-    loop {
-        if left == 0 {
-            break;
-        }
+    while left != 0 {
         match job.task() {
-            Task::Fill {
+            Some(Task::Fill {
                 after,
                 source,
                 target,
                 entry,
-            } => {
+            }) => {
                 let kind = job.kind;
                 let count = entries_now(kind.row_digits(job.width), entry, left);
-                let want = wants::want_by(kind);
-                layers::fill(
-                    &next, want, job.width, job.height, after, source, target, entry, count,
-                    givens, table,
-                );
+                let entries = Entries {
+                    after,
+                    source,
+                    target,
+                    from: entry,
+                    count,
+                };
+                layers::fill(grid, entries, table);
                 job = job.after_entries(count);
                 left -= count;
             }
-            Task::Choose { row, source } => {
-                match choosing::choose(&next, job, row, source, givens, table, board) {
-                    Stepped::Next(j) => {
-                        job = j;
-                    }
-                    Stepped::Spoiled => {
-                        return Worked {
-                            job, // before the row
-                            status: Status::Refused(Refusal::SpoiledTable),
-                        };
-                    }
-                }
+            Some(Task::Choose { row, source }) => {
+                let Some(next_job) = choosing::choose(grid, job, row, source, table, board) else {
+                    return Worked {
+                        job, // before the row
+                        status: Err(Refusal::SpoiledTable),
+                    };
+                };
+                job = next_job;
                 left -= 1;
             }
-            Task::Nothing => {
-                break;
-            }
+            None => break,
         }
     }
-    let stage = job.stage;
-    let status = status_of(stage);
-    Worked { job, status }
+    Worked {
+        job,
+        status: Ok(status_of(job.stage)),
+    }
 }

@@ -2,7 +2,7 @@
 -- Assumes nothing.
 use mathlib.Core.Path.{◌≡◌, refl, sym, ◌∙◌, ap}
 use mathlib.Core.List.{List}
-use mathlib.Core.Option.{none, some}
+use Rattle.std.specs.Prelude.{None, Some}
 use Prim.Native.Nat.{ℕ, ◌+◌}
 use native.Mathlib.Numerals.{add-one}
 use Rattle.board.specs.declared.Refusal.{Refusal}
@@ -39,14 +39,14 @@ pub calls_made : {j : Job} {g t β : List ℕ} {allowance n calls r : ℕ} {now 
 calls_made is all e = record { is = rw (e, is, all) }
 
 -- ---- the number of no kind, and of a kind by what opening answers
-pub no_kind : {n w h : ℕ} {g : List ℕ} {allowance calls : ℕ} → kind_at n ≡ none → (t β : List ℕ) → WorksInCalls n w h g t β allowance calls 2003 t β
+pub no_kind : {n w h : ℕ} {g : List ℕ} {allowance calls : ℕ} → kind_at n ≡ None → (t β : List ℕ) → WorksInCalls n w h g t β allowance calls 2003 t β
 no_kind e t β = record { is = rw e }
 
 module _ {kind : Kind} {rule : Rule} {w h : ℕ} {g : List ℕ} {o : JobResult} (O : Opens kind rule w h g o) (ruled : rule ≡ conway_rule) where
   answered : open_rule kind conway_rule w h g ≡ job_result_says o
   answered = rw (← ruled) (sym O.says)
 
-  module _ {n allowance calls : ℕ} (e : kind_at n ≡ some kind) where
+  module _ {n allowance calls : ℕ} (e : kind_at n ≡ Some kind) where
     pub opening_refuses : {r : Refusal} → o ≡ JobResult.Refused r → (t β : List ℕ) → WorksInCalls n w h g t β allowance calls 2003 t β
     opening_refuses q t β = record { is = rw (e, answered, q) }
 

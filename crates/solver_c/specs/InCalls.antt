@@ -1,7 +1,6 @@
 -- A job in working calls, for C: what is answered and left, for every input.
 -- Assumes nothing.
-use Rattle.std.specs.Prelude.{◌≡◌, cond, List, ℕ, zero, suc, eqb, get_or}
-use Rattle.std.proofs.Math.Option.{Option, none, some}
+use Rattle.std.specs.Prelude.{◌≡◌, cond, List, ℕ, zero, suc, eqb, get_or, Option, None, Some}
 use Rattle.board.specs.Answers.{Answer, gives, refuses}
 use Rattle.rule.specs.Rule.{conway_rule}
 use Rattle.job_kind.specs.Kinds.{kind_number}
@@ -30,9 +29,9 @@ code_of (refuses n values) = 2003
 -- the kind with a number
 abbrev pub kind_at : ℕ → Option Kind
 kind_at n =
-    cond (eqb n (kind_number Kind.Ordinary)) (some Kind.Ordinary)
-    (cond (eqb n (kind_number Kind.TwoLayers)) (some Kind.TwoLayers)
-    (cond (eqb n (kind_number Kind.Mirror)) (some Kind.Mirror) (cond (eqb n (kind_number Kind.Predecessor)) (some Kind.Predecessor) none)))
+    cond (eqb n (kind_number Kind.Ordinary)) (Some Kind.Ordinary)
+    (cond (eqb n (kind_number Kind.TwoLayers)) (Some Kind.TwoLayers)
+    (cond (eqb n (kind_number Kind.Mirror)) (Some Kind.Mirror) (cond (eqb n (kind_number Kind.Predecessor)) (Some Kind.Predecessor) None)))
 
 -- ---- the function
 -- the answer, and the table and the board afterwards
@@ -54,8 +53,8 @@ module _ (w h : ℕ) (givens table board : List ℕ) (allowance calls : ℕ) whe
   left_opened (refuses n values) kind = turned_away
 
   abbrev pub left_as : Option Kind → Left
-  left_as none = turned_away
-  left_as (some kind) = left_opened (open_rule kind conway_rule w h givens) kind
+  left_as None = turned_away
+  left_as (Some kind) = left_opened (open_rule kind conway_rule w h givens) kind
 
 pub record WorksInCalls (kind w h : ℕ) (givens table board : List ℕ) (allowance calls r : ℕ) (table' board' : List ℕ) : Type 0 where
   pub is : record { answer = r; table = table'; board = board' } ≡ left_as w h givens table board allowance calls (kind_at kind)

@@ -5,7 +5,8 @@ ghost use Rattle.std.specs.Prelude.{◌≡◌};
 ghost use Rattle.solver.specs.Working.{status_says};
 ghost use Rattle.solver_c.specs.InCalls.{code_of, WorksInCalls, MakesCalls};
 
-use job::{Job, JobResult};
+use board::Refusal;
+use job::Job;
 use job_kind::Kind;
 use solver::Status;
 
@@ -32,16 +33,12 @@ pub extern "C" fn work_in_calls(
 ) -> usize
     ensures { WorksInCalls kind w h givens.now table.old board.old allowance calls result table.new board.new }
 {
-    let kind = match kind {
-        0 => Kind::Ordinary,
-        1 => Kind::TwoLayers,
-        2 => Kind::Mirror,
-        3 => Kind::Predecessor,
-        _ => return REFUSED,
+    let Ok(kind) = Kind::try_from(kind) else {
+        return REFUSED;
     };
     match job::open(kind, rule::conway(), w, h, givens) {
-        JobResult::Ready(job) => run(job, givens, table, board, allowance, calls),
-        JobResult::Refused(_) => REFUSED,
+        Ok(job) => run(job, givens, table, board, allowance, calls),
+        Err(_) => REFUSED,
     }
 }
 
@@ -57,8 +54,8 @@ fn run(
     ensures { MakesCalls start givens.now table.old board.old allowance calls result table.new board.new }
 {
     let mut job = start;
-    let mut status = Status::Unfinished;
-    for k in 0..calls {
+    let mut status = Ok(Status::Unfinished);
+    for _ in 0..calls {
         let worked = solver::work(job, givens, table, board, allowance);
         job = worked.job;
         status = worked.status;
@@ -67,13 +64,13 @@ fn run(
 }
 
 // The answer for what a call answers.
-fn code_of(status: Status) -> usize
+fn code_of(status: Result<Status, Refusal>) -> usize
     ensures { result ≡ code_of (status_says status) }
 {
     match status {
-        Status::Unfinished => UNFINISHED,
-        Status::Finished(score) => score,
-        Status::Infeasible => INFEASIBLE,
-        Status::Refused(_) => REFUSED,
+        Ok(Status::Unfinished) => UNFINISHED,
+        Ok(Status::Finished(score)) => score,
+        Ok(Status::Infeasible) => INFEASIBLE,
+        Err(_) => REFUSED,
     }
 }

@@ -2,7 +2,7 @@
 -- Assumes nothing.
 use mathlib.Core.Path.{◌≡◌, refl, sym, ◌∙◌, ap}
 use mathlib.Core.Bool.{Bool, true, false, cond, false≢true}
-use mathlib.Core.Option.{Option, none, some}
+use Rattle.std.specs.Prelude.{Option, None, Some}
 use mathlib.Core.List.{List, [], ◌∷◌}
 use mathlib.Core.Logic.{◌↔◌, inl, inr}
 use Prim.Native.Nat.{ℕ}
@@ -50,10 +50,10 @@ unfolding open_rule grid_check read_check
 opening_refusal kind k rule {w} {h} {g} G = rw (k.whole, k.givens, size_passes G.size, givens_pass G) (then_gives_last (rule_check rule) (edge_check rule w h g) _)
 
 both_or_neither : (o o' : Option ℕ) (n : ℕ) → refuse_at o n ≡ passed ↔ refuse_at o' n ≡ passed → refusal_in (refuse_at o n) ≡ refusal_in (refuse_at o' n)
-both_or_neither none none n f = refl
-both_or_neither none (some p) n f = absurd (refuses_none (f.0 refl))
-both_or_neither (some p) none n f = absurd (refuses_none (f.1 refl))
-both_or_neither (some p) (some q) n f = refl
+both_or_neither None None n f = refl
+both_or_neither None (Some p) n f = absurd (refuses_none (f.0 refl))
+both_or_neither (Some p) None n f = absurd (refuses_none (f.1 refl))
+both_or_neither (Some p) (Some q) n f = refl
 
 then_same : (a b c : Answer) → refusal_in b ≡ refusal_in c → refusal_in (a then b) ≡ refusal_in (a then c)
 then_same (gives us) b c e = e
@@ -61,7 +61,7 @@ then_same (refuses n us) b c e = refl
 
 -- the place that the check of edge threes answers
 abbrev edge_found : Rule → ℕ → ℕ → List ℕ → Option ℕ
-edge_found rule w h g = cond (born_on3 rule) (first_edge_three w h g) none
+edge_found rule w h g = cond (born_on3 rule) (first_edge_three w h g) None
 
 pub same_opening : SameOpening
 unfolding edge_check
@@ -76,8 +76,8 @@ same_opening kind kind' k k' rule t w h g T =
 
 -- ---- the answer of a job that has ended
 abbrev score_says : Option ℕ → Answer
-score_says (some score) = finished score
-score_says none = infeasible
+score_says (Some score) = finished score
+score_says None = infeasible
 
 record SaysBest (rule : Rule) (w h : ℕ) (g : List ℕ) (says : Answer) : Type 0 where
   score : Option ℕ
@@ -90,13 +90,13 @@ same_said {rule} t T A B = A.is_said ∙ ap score_says (same_best rule t T A.is_
 
 -- ---- jobs
 -- such a job wants the best of all boards, and counts its score
-wanted_best : (kind : Kind) → OfAllBoards kind → (rule : Rule) (w h : ℕ) (g b : List ℕ) → OptimalBy kind rule w h g b → BestScore rule w h g (some (count_by (has_target kind) w h g b))
+wanted_best : (kind : Kind) → OfAllBoards kind → (rule : Rule) (w h : ℕ) (g b : List ℕ) → OptimalBy kind rule w h g b → BestScore rule w h g (Some (count_by (has_target kind) w h g b))
 wanted_best Kind.Ordinary k rule w h g b B = best b B
 wanted_best Kind.TwoLayers k rule w h g b B = best b B
 wanted_best Kind.Mirror k rule w h g b B = absurd (false≢true (sym k.whole))
 wanted_best Kind.Predecessor k rule w h g b B = absurd (false≢true (sym k.givens))
 
-wanted_none : (kind : Kind) → OfAllBoards kind → (rule : Rule) (w h : ℕ) (g : List ℕ) → ((b : List ℕ) → SolutionBy kind rule w h g b → ⊥) → BestScore rule w h g none
+wanted_none : (kind : Kind) → OfAllBoards kind → (rule : Rule) (w h : ℕ) (g : List ℕ) → ((b : List ℕ) → SolutionBy kind rule w h g b → ⊥) → BestScore rule w h g None
 wanted_none Kind.Ordinary k rule w h g n = no_board n
 wanted_none Kind.TwoLayers k rule w h g n = no_board n
 wanted_none Kind.Mirror k rule w h g n = absurd (false≢true (sym k.whole))
@@ -105,7 +105,7 @@ wanted_none Kind.Predecessor k rule w h g n = absurd (false≢true (sym k.givens
 module _ {kind : Kind} (k : OfAllBoards kind) {rule : Rule} {w h : ℕ} {g : List ℕ} {calls : List (Call grid)} {s : State} where
   outcome_best : (o : Outcome grid (aim_of (grid_kind kind rule w h g)) calls s) → SaysBest rule w h g (last_answer o)
   outcome_best (solved b final W S) = record { score = _; is_best = wanted_best kind k rule w h g b W.wanted; is_said = W.says }
-  outcome_best (unsolvable n S) = record { score = none; is_best = wanted_none kind k rule w h g n; is_said = refl }
+  outcome_best (unsolvable n S) = record { score = None; is_best = wanted_none kind k rule w h g n; is_said = refl }
 
 pub same_outcome : SameOutcome
 same_outcome kind kind' k k' rule t w h g T calls others s s' o o' = same_said t T (outcome_best k o) (outcome_best k' o')
@@ -142,12 +142,12 @@ same_answer kind kind' k k' rule t w h g T calls others s s' F F' a b n m x y =
 -- ---- whole jobs in one call
 ends_best : {kind : Kind} → OfAllBoards kind → {rule : Rule} {w h : ℕ} {g t β t' β' : List ℕ} {says : Answer} → Ends kind rule w h g t β says t' β' → SaysBest rule w h g says
 ends_best {kind} k {rule} {w} {h} {g} (Solving.best B e F) = record { score = _; is_best = wanted_best kind k rule w h g _ B; is_said = e }
-ends_best {kind} k {rule} {w} {h} {g} (Solving.none n e same F) = record { score = none; is_best = wanted_none kind k rule w h g n; is_said = e }
+ends_best {kind} k {rule} {w} {h} {g} (Solving.none n e same F) = record { score = None; is_best = wanted_none kind k rule w h g n; is_said = e }
 
 -- over memory that there is room in, solving refuses what opening does
 at_passed : (a : Answer) (o : Option ℕ) (n : ℕ) → (a then (refuse_at o n then passed) then passed) ≡ (a then refuse_at o n)
-at_passed (gives us) none n = refl
-at_passed (gives us) (some p) n = refl
+at_passed (gives us) None n = refl
+at_passed (gives us) (Some p) n = refl
 at_passed (refuses m us) o n = refl
 
 solving_check : (kind : Kind) → OfAllBoards kind → (rule : Rule) {w h : ℕ} {g : List ℕ} (t β : List ℕ) → Givens w h g → memory_check kind w h t β ≡ passed
@@ -162,10 +162,10 @@ same e = record { refused = ap refusal_in e; ended = λ n. e }
 both_refuse : {a b : Answer} (n : ℕ) {us vs : List ℕ} → a ≡ refuses n us → b ≡ refuses n vs → SameButPlace a b
 both_refuse n p q = record {
   refused = ap refusal_in p ∙ sym (ap refusal_in q);
-  ended = λ e. let z : ◌≡◌ {A = Option ℕ} (some n) none = sym (ap refusal_in p) ∙ e in absurd (some_none z);
+  ended = λ e. let z : ◌≡◌ {A = Option ℕ} (Some n) None = sym (ap refusal_in p) ∙ e in absurd (some_none z);
 }
   where
-    some_none : {n : ℕ} → ◌≡◌ {A = Option ℕ} (some n) none → ⊥
+    some_none : {n : ℕ} → ◌≡◌ {A = Option ℕ} (Some n) None → ⊥
     some_none z = let y : ◌≡◌ {A = ℕ} 0 1 = cc in omega arith
 
 module _ (kind kind' : Kind) (k : OfAllBoards kind) (k' : OfAllBoards kind') (rule : Rule) (t : Turn) {w h : ℕ} {g : List ℕ} (T : Turnable w h g) where
@@ -175,10 +175,10 @@ module _ (kind kind' : Kind) (k : OfAllBoards kind) (k' : OfAllBoards kind') (ru
       → SolvesTo (refuse_unless fits 13 then refuse_at o' 14) kind' rule (turned_width t w h) (turned_height t w h) (turned_bytes t w h g) τ' β' b τ₂ β₂
       → SameButPlace a b
   same_by false o o' f S S' = both_refuse 13 (S.turned 13 [] refl).0 (S'.turned 13 [] refl).0
-  same_by true (some p) (some q) f S S' = both_refuse 14 (S.turned 14 (p ∷ []) refl).0 (S'.turned 14 (q ∷ []) refl).0
-  same_by true none (some q) f S S' = absurd (refuses_none (f.0 refl))
-  same_by true (some p) none f S S' = absurd (refuses_none (f.1 refl))
-  same_by true none none f S S' = same (same_said t T (ends_best k (S.ended refl)) (ends_best k' (S'.ended refl)))
+  same_by true (Some p) (Some q) f S S' = both_refuse 14 (S.turned 14 (p ∷ []) refl).0 (S'.turned 14 (q ∷ []) refl).0
+  same_by true None (Some q) f S S' = absurd (refuses_none (f.0 refl))
+  same_by true (Some p) None f S S' = absurd (refuses_none (f.1 refl))
+  same_by true None None f S S' = same (same_said t T (ends_best k (S.ended refl)) (ends_best k' (S'.ended refl)))
 
 pub same_solved : SameSolved
 unfolding rule_check edge_check

@@ -2,7 +2,7 @@
 -- Assumes nothing.
 use mathlib.Core.Path.{◌≡◌, refl, sym, ◌∙◌, ap, ap₂, subst}
 use mathlib.Core.Bool.{false≢true}
-use mathlib.Core.Option.{Option, some}
+use Rattle.std.specs.Prelude.{Option, Some}
 use mathlib.Core.List.{List}
 use Prim.Native.Nat.{ℕ, ◌*◌, ◌<◌, ◌≤◌}
 use native.Mathlib.Omega.{arith}
@@ -151,7 +151,7 @@ module _ (rule : Rule) (t : Turn) {w h : ℕ} {g : List ℕ} (T : Turnable w h g
       )
 
   pub same_best : {x y : Option ℕ} → BestScore rule w h g x → BestScore rule W H tg y → x ≡ y
-  same_best (best b B) (best c C) = ap some (same_score B C)
+  same_best (best b B) (best c C) = ap Some (same_score B C)
   same_best (best b B) (no_board n) = absurd (n (turned_bytes t w h b) (turned_solution B.solution))
   same_best (no_board n) (best c C) = absurd (n (turned_bytes (inverse t) W H c) (back_solution C.solution))
   same_best (no_board n) (no_board m) = refl
@@ -167,8 +167,8 @@ has_best : {rule : Rule} → Allowed rule → {w h : ℕ} → Sized w h → (g :
 has_best {rule} allowed {w} {h} z g = go (choice_is_optimal Kind.Ordinary rule allowed w h g (λ e. absurd (false≢true e)) (size_by z))
   where
     go : BestOrNone Kind.Ordinary rule w h g → (x : Option ℕ) × BestScore rule w h g x
-    go (Solver.best b B rows is) = (some (score w h g b), best b B)
-    go (Solver.none n is) = (Option.none, no_board n)
+    go (Solver.best b B rows is) = (Some (score w h g b), best b B)
+    go (Solver.none n is) = (Option.None, no_board n)
 
 pub same_best_score : SameBestScore
 same_best_score rule allowed t w h g T =

@@ -1,8 +1,7 @@
 -- Req 07, of what calls answer: a grid and its turned grid open alike, their ordinary jobs and jobs of two layers come to the same answer, and so do
 -- whole jobs in one call.
 -- Assumes nothing.
-use Rattle.std.specs.Prelude.{◌≡◌, false, ◌⊎◌, List, [], ◌∷◌, ℕ}
-use Rattle.std.proofs.Math.Option.{Option, none, some}
+use Rattle.std.specs.Prelude.{◌≡◌, false, ◌⊎◌, List, [], ◌∷◌, ℕ, Option, None, Some}
 use Rattle.board.specs.Answers.{Answer, gives, refuses, passed}
 use Rattle.rule.specs.declared.Rule.{Rule}
 use Rattle.job_kind.specs.Kinds.{halves_of, has_target}
@@ -28,8 +27,8 @@ pub record OfAllBoards (kind : Kind) : Type 0 where
 -- ---- opening
 -- the number of a refusal, whatever place comes with it
 abbrev pub refusal_in : Answer → Option ℕ
-refusal_in (gives values) = none
-refusal_in (refuses n values) = some n
+refusal_in (gives values) = None
+refusal_in (refuses n values) = Some n
 
 -- A grid and its turned grid open alike, as jobs of any such kinds and under any rule: both are opened, or both are turned away by one number.
 abbrev pub SameOpening : Type 0
@@ -83,7 +82,7 @@ SameAnswer =
 -- two answers are the same, but for the place that comes with a refusal
 pub record SameButPlace (a b : Answer) : Type 0 where
   pub refused : refusal_in a ≡ refusal_in b
-  pub ended : refusal_in a ≡ none → a ≡ b
+  pub ended : refusal_in a ≡ None → a ≡ b
 
 -- `runner::solve` answers the same of a grid and of the turned grid, as jobs of any such kinds and under any rule, over memory that each has room in
 abbrev pub SameSolved : Type 0

@@ -1,7 +1,6 @@
 -- Req 07: turned boards and grids, and that a grid and its turned grid have the same best score.
 -- Assumes nothing.
-use Rattle.std.specs.Prelude.{◌≡◌, ◌↔◌, List, ℕ, ◌+◌, ◌*◌, ◌≤◌, ◌<◌, length}
-use Rattle.std.proofs.Math.Option.{Option, none, some}
+use Rattle.std.specs.Prelude.{◌≡◌, ◌↔◌, List, ℕ, ◌+◌, ◌*◌, ◌≤◌, ◌<◌, length, Option, None, Some}
 use Rattle.board.specs.Boards.{max_width, Givens}
 use Rattle.rule.specs.Rule.{Allowed}
 use Rattle.rule.specs.declared.Rule.{Rule}
@@ -51,8 +50,8 @@ EdgeThreesTurned =
 -- ---- the best score
 -- a grid's best score: its best board's; or none, where no still board keeps the givens
 pub data BestScore (rule : Rule) (w h : ℕ) (givens : List ℕ) : Option ℕ → Type 0 where
-  best : (board : List ℕ) → Optimal rule w h givens board → BestScore rule w h givens (some (score w h givens board))
-  no_board : ((board : List ℕ) → Solution rule w h givens board → ⊥) → BestScore rule w h givens none
+  best : (board : List ℕ) → Optimal rule w h givens board → BestScore rule w h givens (Some (score w h givens board))
+  no_board : ((board : List ℕ) → Solution rule w h givens board → ⊥) → BestScore rule w h givens None
 
 -- TURNING A GRID CHANGES NO BEST SCORE: under every rule that isn't barred a grid has exactly one best score, none counted, and the turned grid has the
 -- same

@@ -1,11 +1,10 @@
 -- Document 01, "Plaintext boards and the program": what a board is written as.
 -- Assumes nothing.
-use Rattle.std.specs.Prelude.{◌≡◌, ℕ, zero, suc, ◌+◌, ◌*◌, leb, length, take, drop}
+use Rattle.std.specs.Prelude.{◌≡◌, ℕ, zero, suc, ◌+◌, ◌*◌, leb, length, take, drop, Result}
 use mathlib.Core.List.{List, [], ◌∷◌, ◌++◌, map, flat_map}
-use Rattle.board.specs.Answers.{Answer, gives, refusal_says, ◌then◌, refuse_unless, after}
+use Rattle.board.specs.Answers.{Answer, gives, says, ◌then◌, refuse_unless, after}
 use Rattle.board.specs.Checks.{board_check}
-use Rattle.writer.specs.declared.Written.{Written}
-use Rattle.writer.specs.declared.Written.TheVariants.{Length, Refused}
+use Rattle.board.specs.declared.Refusal.{Refusal}
 use Rattle.writer.specs.Letters.{LF, letter_of}
 
 -- the rows of a board: h of them, w cells each
@@ -34,11 +33,10 @@ unfoldable pub text_over : ℕ → ℕ → List ℕ → List ℕ → List ℕ
 text_over w h cells text = board_text w h cells ++ drop (text_length w h) text
 
 -- an answer in the paper's terms
-abbrev pub written_says : Written → Answer
-written_says (Length n) = gives (n ∷ [])
-written_says (Refused r) = refusal_says r
+abbrev pub written_says : Result ℕ Refusal → Answer
+written_says = says (λ n. n ∷ [])
 
 -- writing a board answers r, and leaves text' in the lent text
-pub record WritesText (w h : ℕ) (cells text text' : List ℕ) (r : Written) : Type 0 where
+pub record WritesText (w h : ℕ) (cells text text' : List ℕ) (r : Result ℕ Refusal) : Type 0 where
   pub answers : written_says r ≡ write_rule w h cells (length text)
   pub leaves : text' ≡ after (write_rule w h cells (length text)) (text_over w h cells text) text

@@ -3,7 +3,7 @@
 use mathlib.Core.Path.{◌≡◌, sym, ◌∙◌}
 use mathlib.Core.Bool.{true}
 use mathlib.Core.List.{List}
-use mathlib.Core.Option.{Option, none, some}
+use Rattle.std.specs.Prelude.{Option, None, Some}
 use Prim.Native.Nat.{ℕ, ◌+◌, ◌/◌, ◌%◌}
 use native.Mathlib.Nat.{div-le_self, mod-le}
 use native.Mathlib.Omega.{arith}
@@ -30,7 +30,7 @@ pub returns-then-w-eq0 : goal.returns-then-w-eq0
 returns-then-w-eq0 c =
     let a = c.args in
     let z : a.w ≡ 0 = omega arith in
-    finds a.rule a.w a.h a.givens.now none (eq-eqb _ _ c.if-rule-ne1.false)
+    finds a.rule a.w a.h a.givens.now None (eq-eqb _ _ c.if-rule-ne1.false)
     (none_of _ _ (λ p l. rw (middle_none a.w a.h a.givens.now (p / a.w + 1) (p % a.w + 1) z)))
 
 pub loop-place-init : goal.loop-place-init
@@ -44,7 +44,7 @@ is_edge_three-requires c =
 
 pub returns-then-is_edge_three : goal.returns-then-is_edge_three
 returns-then-is_edge_three c =
-    finds c.args.rule _ _ _ (some c.loop-place.place) (eq-eqb _ _ c.if-rule-ne1.false)
+    finds c.args.rule _ _ _ (Some c.loop-place.place) (eq-eqb _ _ c.if-rule-ne1.false)
     (some_at _ _ _ c.loop-place-test.true c.loop-place.invariant.1 (rw (sym c.is_edge_three.ensures ∙ c.if-is_edge_three.true)))
 
 pub loop-place-preserved : goal.loop-place-preserved
@@ -54,4 +54,4 @@ pub returns : goal.returns
 returns c =
     let a = c.args in
     let e : c.loop-place.place ≡ length a.givens.now = omega arith in
-    finds a.rule _ _ _ none (eq-eqb _ _ c.if-rule-ne1.false) (rw e at c.loop-place.invariant.1)
+    finds a.rule _ _ _ None (eq-eqb _ _ c.if-rule-ne1.false) (rw e at c.loop-place.invariant.1)

@@ -3,7 +3,7 @@
 use mathlib.Core.Path.{◌≡◌, sym, ◌∙◌}
 use mathlib.Core.Bool.{true, false}
 use mathlib.Core.List.{List}
-use mathlib.Core.Option.{Option, none, some}
+use Rattle.std.specs.Prelude.{Option, None, Some}
 use Prim.Native.Nat.{ℕ, ◌+◌, ◌-◌, ◌/◌, ◌%◌}
 use native.Mathlib.Nat.{div-le_self, mod-le, mod-lt}
 use native.Mathlib.Omega.{arith}
@@ -41,7 +41,7 @@ pub returns-then-w-eq0 : goal.returns-then-w-eq0
 returns-then-w-eq0 c =
     let a = c.args in
     let z : a.w ≡ 0 = omega arith in
-    finds a.w a.h a.givens.now none (none_of _ _ (λ p l. no_column a.w a.h a.givens.now p z))
+    finds a.w a.h a.givens.now None (none_of _ _ (λ p l. no_column a.w a.h a.givens.now p z))
 
 pub loop-place-init : goal.loop-place-init
 loop-place-init c = (search rules, none_yet _)
@@ -61,7 +61,7 @@ overflow_sub-w c = omega (arith, mod-lt c.loop-place.place {m = c.args.w} (omega
 pub returns-then-mark-reflected : goal.returns-then-mark-reflected
 returns-then-mark-reflected c =
     let a = c.args in
-    finds a.w a.h a.givens.now (some c.loop-place.place)
+    finds a.w a.h a.givens.now (Some c.loop-place.place)
     (some_at _ _ _ c.loop-place-test.true c.loop-place.invariant.1
     (marks_differ a.w a.h a.givens.now c.loop-place.place c.byte_at-mark.ensures c.byte_at-reflected.ensures c.if-mark-reflected.true))
 
@@ -77,4 +77,4 @@ pub returns : goal.returns
 returns c =
     let a = c.args in
     let e : c.loop-place.place ≡ length a.givens.now = omega arith in
-    finds _ _ _ none (rw e at c.loop-place.invariant.1)
+    finds _ _ _ None (rw e at c.loop-place.invariant.1)

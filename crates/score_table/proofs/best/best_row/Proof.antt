@@ -4,7 +4,7 @@
 -- Assumes nothing.
 use mathlib.Core.Path.{◌≡◌, ◌∙◌, sym, ap, ap₂}
 use mathlib.Core.Bool.{Bool, true, false}
-use mathlib.Core.Option.{Option, none, some}
+use Rattle.std.specs.Prelude.{Option, None, Some}
 use Prim.Native.Nat.{ℕ, ◌+◌, ◌-◌, ◌^◌, ◌≤◌, ◌<◌}
 use native.Mathlib.Omega.{arith}
 use borrow.Author.Rules.{rules}
@@ -89,7 +89,7 @@ done : (t : Turn) (held : Best) → HeldAt t (tried t + 1) held → Done t held
 done t held H = ((rows_at t).rows.invariant.0, (rows_at t).rows.invariant.1, search rules, H)
 
 -- the row offers nothing
-pass : (t : Turn) → Offer t (tried t) ≡ none → Done t (rows_at t).rows.held
+pass : (t : Turn) → Offer t (tried t) ≡ None → Done t (rows_at t).rows.held
 pass t e = done t _ (held_pass _ _ _ _ _ _ _ _ _ (rows_at t).rows.invariant.3 e)
 
 -- the number that is tried is one of a row, and its row has w cells
@@ -144,11 +144,11 @@ kept c =
 -- the sum of the turn is what the row offers
 sum : (c : tie.After-row_worth invariant-loop-j decreases-loop-j invariant-rows decreases-rows) →
     let g = (start c.before.before.before.before.before.before.before.before).args in
-    Offer c.before.before.before.before.before.before.before.before (tried c.before.before.before.before.before.before.before.before) ≡ some (c.row_worth.result + get_or g.table.now (g.first + tried c.before.before.before.before.before.before.before.before) 0)
+    Offer c.before.before.before.before.before.before.before.before (tried c.before.before.before.before.before.before.before.before) ≡ Some (c.row_worth.result + get_or g.table.now (g.first + tried c.before.before.before.before.before.before.before.before) 0)
 sum c =
     let g = (start c.before.before.before.before.before.before.before.before).args in
     offer_sum (want_of_lem c.before.before.before.before.before.before.before.before) _ _ _ _ _ _ _ _ _ (agreed c.before.before.before.before.before.before) (sym (kept c.before.before.before.before.before) ∙ c.if-not-row_kept.false) c.if-want-e.false
-    ∙ ap (λ (x : ℕ). some (x + get_or g.table.now (g.first + tried c.before.before.before.before.before.before.before.before) 0))
+    ∙ ap (λ (x : ℕ). Some (x + get_or g.table.now (g.first + tried c.before.before.before.before.before.before.before.before) 0))
     (sym (c.row_worth.ensures.0 ∙ ap (row_worth g.w (marks_of g.want.predecessor g.givens.now) g.at) c.row_for-row.ensures.0))
 
 -- the digits of a row's number
@@ -216,7 +216,7 @@ rows-preserved-then-not-passes c =
     let past : tried c.before.before.before.before.before < m = c.next_row-c.ensures.1 in
     let e : tried c.before.before.before.before.before + (m - tried c.before.before.before.before.before) ≡ m = omega arith in
     let bad : Turns c.before.before.before.before.before (tried c.before.before.before.before.before) j ≡ false = sym (passed c.before.before) ∙ c.if-not-passes.true in
-    let fail : (y : ℕ) → tried c.before.before.before.before.before ≤ y → y < tried c.before.before.before.before.before + (m - tried c.before.before.before.before.before) → Offer c.before.before.before.before.before y ≡ none =
+    let fail : (y : ℕ) → tried c.before.before.before.before.before ≤ y → y < tried c.before.before.before.before.before + (m - tried c.before.before.before.before.before) → Offer c.before.before.before.before.before y ≡ None =
     λ y l u.
     let u' : y < skip_to bits (tried c.before.before.before.before.before) j = rw (e, skip) at u in
     let ly : y < 2 ^ bits = omega arith in
