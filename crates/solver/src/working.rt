@@ -11,7 +11,7 @@ ghost use Rattle.third_demand.specs.Lent.{Lent, lent_state};
 use crate::{Status, Worked, choosing, wants};
 use board::Refusal;
 use job::{Job, Stage, Task};
-use score_table::{Entries, Grid};
+use score_table::Entries;
 
 // The checks of a working call: 7 as pausing, then 3, 4, 14, 15, 5, 6; with a target 3, 4, 5, 6.
 pub fn check_work(job: Job, givens: &[u8], table: &[u16], board: &[u8]) -> Result<(), Refusal>
@@ -62,13 +62,6 @@ pub fn work_on(
 {
     let rule = start.rule;
     let next = rule::table::of(rule);
-    let grid = Grid {
-        next: &next,
-        want: wants::want_by(start.kind),
-        width: start.width,
-        height: start.height,
-        givens,
-    };
     let mut job = start;
     let mut left = allowance as usize;
     while left != 0 {
@@ -88,12 +81,12 @@ pub fn work_on(
                     from: entry,
                     count,
                 };
-                layers::fill(grid, entries, table);
+                layers::fill(wants::grid_of(&next, job, givens), entries, table);
                 job = job.after_entries(count);
                 left -= count;
             }
             Some(Task::Choose { row, source }) => {
-                let Some(next_job) = choosing::choose(grid, job, row, source, table, board) else {
+                let Some(next_job) = choosing::choose(&next, job, row, source, givens, table, board) else {
                     return Worked {
                         job, // before the row
                         status: Err(Refusal::SpoiledTable),
