@@ -1,6 +1,6 @@
 -- A board is never refused where there is room for its text, and its text is printed.
 -- Assumes nothing.
-use mathlib.Core.Path.{◌≡◌, refl, sym, ◌∙◌, ap}
+use mathlib.Core.Path.{◌≡◌, refl, sym, ◌∙◌}
 use mathlib.Core.List.{List, [], ◌∷◌}
 use Prim.Native.Nat.{ℕ, ◌+◌, ◌≤◌}
 use native.Mathlib.Nat.{mul-le-mul}
@@ -32,18 +32,9 @@ module _ {w h : ℕ} {cells text text' : List ℕ} {r : Result ℕ Refusal} (B :
   unfolding write_rule
   rule = let s = text_short w h B.size in rw (board_passes B, le-leb (text_length w h) (length text) (omega arith)) refl
 
-  written : r ≡ Ok (text_length w h)
+  pub written : r ≡ Ok (text_length w h)
   written = length_of _ (W.answers ∙ rule)
 
-  pub never_refused : {why : Refusal} → r ≡ Err why → ⊥
-  never_refused e = refuses_none (ap written_says (sym e ∙ written))
-
-  letters : {n : ℕ} → r ≡ Ok n → n ≡ text_length w h
-  letters {n} e = let q : ◌≡◌ {A = Result ℕ Refusal} (Ok n) (Ok (text_length w h)) = sym e ∙ written in cc q
-
-  pub letters_short : {n : ℕ} → r ≡ Ok n → n ≤ 660
-  letters_short {n} e = rw (letters e) (text_short w h B.size)
-
-  pub prints_board : {n : ℕ} → r ≡ Ok n → Prints (board_text w h cells) text n text'
+  pub prints_board : Prints (board_text w h cells) text (text_length w h) text'
   unfolding text_over
-  prints_board e = rw (letters e) record { count = sym (text_has_length w h cells B.bytes.long); bytes = rw rule at W.leaves }
+  prints_board = record { count = sym (text_has_length w h cells B.bytes.long); bytes = rw rule at W.leaves }
