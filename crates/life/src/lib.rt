@@ -11,6 +11,8 @@ ghost use Rattle.board.specs.Answers.{check_says};
 ghost use Rattle.board.specs.Boards.{Board};
 ghost use Rattle.life.specs.Calls.{verdict_says, life_check, judge_rule, step_rule, step_writes};
 
+use plane::Plane;
+
 // A cell that changes, by its row and column, which count the ring.
 #[derive(Clone, Copy, Debug, PartialEq, Eq)]
 pub struct Change {
@@ -29,8 +31,12 @@ pub fn step(rule: Rule, w: usize, h: usize, cells: &[u8], ring: &mut [u8]) -> Re
     if ring.len() != (w + 2) * (h + 2) {
         return Err(Refusal::ShortOutput);
     }
-    let next = rule::table::of(rule);
-    plane::write_step(&next, w, h, cells, ring);
+    let plane = Plane {
+        width: w,
+        height: h,
+        cells,
+    };
+    plane.write_step(&rule::table::of(rule), ring);
     Ok(())
 }
 
@@ -41,8 +47,12 @@ pub fn judge(rule: Rule, w: usize, h: usize, cells: &[u8]) -> Result<Option<Chan
     ensures { verdict_says result ≡ judge_rule rule w h cells.now }
 {
     check_life(rule, w, h, cells)?;
-    let next = rule::table::of(rule);
-    Ok(plane::first_change(&next, w, h, cells))
+    let plane = Plane {
+        width: w,
+        height: h,
+        cells,
+    };
+    Ok(plane.first_change(&rule::table::of(rule)))
 }
 
 // 1, 2, 13, 5, 11: the size, the rule, then the cells.

@@ -11,4 +11,4 @@ pub returns : goal.returns
 unfolding judge_rule
 returns c =
     passed_on c.check_life.ensures.says c.in_ok-check_life.was
-    (c.first_change.ensures ∙ judged_same _ (next_under _) c.of-next.ensures.entry c.in_ok-check_life.ensures.board.bytes)
+    (c.first_change.ensures ∙ judged_same _ (next_under _) c.of.ensures.entry c.in_ok-check_life.ensures.board.bytes)

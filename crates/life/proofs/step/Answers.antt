@@ -14,5 +14,5 @@ returns c =
     let e = let_through c.check_life.ensures.says c.in_ok-check_life.was in (
       simp (e, eq-eqb _ _ c.if-ring-w.false),
       simp (e, eq-eqb _ _ c.if-ring-w.false)
-          (c.write_step.ensures ∙ stepped_same _ (next_under _) c.of-next.ensures.entry c.in_ok-check_life.ensures.board.bytes),
+          (c.write_step.ensures ∙ stepped_same _ (next_under _) c.of.ensures.entry c.in_ok-check_life.ensures.board.bytes),
     )
