@@ -1,9 +1,9 @@
--- `life::plane::pattern` meets its contract: its three rows are the plane's.
+-- `life::plane::Plane::pattern` meets its contract: its three rows are the plane's.
 -- Assumes nothing.
 use Rattle.life.specs.Plane.{around}
 use Rattle.life.proofs.OnPlane.{pred_one, pred_one_more}
 use borrow.Author.Rules.{rules}
-use Rattle.life.proofs.plane.pattern.Goals as goal
+use Rattle.life.proofs.plane.Plane.pattern.Goals as goal
 
 pub returns : goal.returns
 unfolding around
