@@ -11,7 +11,7 @@ use Rattle.elimination.specs.Table.{reads}
 use Rattle.job.specs.Jobs.{above_of, last_of}
 use Rattle.score_table.specs.Calls.{picked_of}
 use Rattle.board_rows.proofs.Writing.{writes_inside}
-use Rattle.score_table.proofs.EntryLaws.{row_room}
+use Rattle.score_table.proofs.Entries.{row_room}
 use Rattle.score_table.proofs.Calls.{picked_nothing, picked_row}
 use Rattle.job.proofs.Next.{fits_rows}
 use Rattle.third_demand.specs.Units.{want_by, grid_rows}
