@@ -54,16 +54,6 @@ off_low n zero l = before 0
 off_low n (suc zero) l = nought
 off_low n (suc (suc i)) l = absurd (not-suc-le-zero (le_of_suc-le-suc (le_of_suc-le-suc l)))
 
-pub off_high : (n i : ℕ) → n + 1 < i → Off n (pred_ℤ (pos i))
-off_high n zero l = absurd (not-suc-le-zero l)
-off_high n (suc i) l = past i (omega arith)
-
--- one before a number that stands on the board
-pub pred_two : (i : ℕ) → 2 ≤ i → pred_ℤ (pos i) ≡ pos (suc (i - 2))
-pred_two zero l = absurd (not-suc-le-zero l)
-pred_two (suc zero) l = absurd (not-suc-le-zero (le_of_suc-le-suc l))
-pred_two (suc (suc i)) l = let e : suc (suc i) - 2 ≡ i = omega arith in rw e
-
 pub pred_one : (i : ℕ) → pred_ℤ (pos (i + 1)) ≡ pos i
 pred_one i = rw (add-one i)
 

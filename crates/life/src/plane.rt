@@ -5,7 +5,7 @@ ghost use Rattle.std.proofs.Math.IntN.{pred_ℤ};
 ghost use Rattle.board.specs.Boards.{Board};
 ghost use Rattle.rule.specs.Rule.{entry_of};
 ghost use Rattle.life.specs.Plane.{on_plane, three, around};
-ghost use Rattle.life.specs.Calls.{change_says, judged, stepped, ring_size};
+ghost use Rattle.life.specs.Calls.{change_says, judged, keeps_at, stepped, ring_size};
 
 use crate::Change;
 
@@ -53,14 +53,21 @@ impl Plane<'_> {
         ensures { change_says result ≡ judged (entry_of next.now) self.now.width self.now.height self.now.cells.now }
     {
         let columns = self.width + 2;
-        for k in 0..columns * (self.height + 2) {
-            let row = k / columns;
-            let column = k % columns;
-            if next[self.pattern(row, column)] != self.cell(row + 1, column + 1) {
-                return Some(Change { row, column });
-            }
-        }
-        None
+        let place = (0..columns * (self.height + 2)).find(|place| !self.keeps(next, *place))?;
+        Some(Change {
+            row: place / columns,
+            column: place % columns,
+        })
+    }
+
+    // Whether the cell at a place keeps its state.
+    fn keeps(&self, next: &[u8; 512], place: usize) -> bool
+        requires { place < ring_size self.now.width self.now.height }
+        ensures { result ≡ keeps_at (entry_of next.now) self.now.width self.now.height self.now.cells.now place }
+    {
+        let row = place / (self.width + 2);
+        let column = place % (self.width + 2);
+        next[self.pattern(row, column)] == self.cell(row + 1, column + 1)
     }
 
     // The next pattern, ring included, into a buffer of its length.
