@@ -5,10 +5,13 @@ use mathlib.Core.Bool.{Bool, true, false, cond, ◌&&◌}
 use mathlib.Core.List.{List}
 use Rattle.std.specs.Prelude.{Option}
 use Prim.Native.Nat.{ℕ, zero, suc, ◌+◌, ◌*◌, ◌-◌, ◌/◌, ◌%◌, ◌^◌, ◌<◌, ◌≤◌}
-use native.Mathlib.Nat.{mul-le-mul_right, div-lt_iff_lt-mul, mod-lt}
+use native.Mathlib.Nat.{mul-le-mul, mul-le-mul_right, div-lt_iff_lt-mul, mod-lt}
 use native.Mathlib.Omega.{arith}
-use lib.ListN.{get_or}
+use borrow.Author.Tests.{leb-true}
+use lib.ListN.{length, get_or}
 use lib.Pow.{pow_pos}
+use Rattle.board.specs.Boards.{max_height, max_mirror_width, Width}
+use Rattle.board.proofs.Widths.{width_le}
 use Rattle.elimination.specs.Candidates.{scan}
 use Rattle.elimination.specs.Kind.{Kind, offer_if, choose, entry, worth_of}
 use Rattle.elimination.specs.Table.{reads}
@@ -17,6 +20,8 @@ use Rattle.life.specs.Rows.{steps_to}
 use Rattle.score_table.specs.Rows.{row_kept, marks_of, target_row, digits_of, row_for}
 use Rattle.score_table.specs.ScoreTable.{absent, kind_for, reads_from}
 use Rattle.score_table.specs.Inner.{choice_of, compared, kind_by, Found, entry_over}
+use Rattle.score_table.specs.Calls.{call_fits, layer_fits}
+use Rattle.score_table.proofs.Calls.{call_memory}
 use Rattle.score_table.specs.declared.Want.{Want}
 use Rattle.score_table.specs.declared.best.Best.{Best}
 use Rattle.board.proofs.Powers.{four_two}
@@ -52,7 +57,7 @@ unfolding reads
 reads_from_lem want next w h givens table source b first e = fun_ext λ c. ap (λ (p : ℕ). get_or table p 0) (omega arith)
 
 module _ (want : Want) (next : ℕ → ℕ) (w h : ℕ) (givens table : List ℕ) (r source a b first t : ℕ) (start : first ≡ source + b * 2 ^ digits_of want w)
-    (becomes : t ≡ target_row want.predecessor w givens r (row_for want w b)) (o : Best) (F : Found want w o (choose (kind_by want next w t givens (r * w)) 0 a b (reads_from table first))) where
+    (becomes : t ≡ target_row want.predecessor w givens r (row_for want w b)) (o : Option Best) (F : Found want w o (choose (kind_by want next w t givens (r * w)) 0 a b (reads_from table first))) where
   abbrev K : Kind ℕ
   K = kind_for want next w h givens
 
@@ -110,8 +115,45 @@ module _ (want : Want) (w j n : ℕ) (en : n ≡ 2 ^ digits_of want w) (next : �
     entry_ends e f = sym (entry_at_last true true e f)
 
   -- a layer above
-  pub entry_best : (k ≡ 0 → ⊥) → (o : Best)
+  pub entry_best : (k ≡ 0 → ⊥) → (o : Option Best)
       → Found want w o (choose (kind_by want next w t givens ((h - k) * w)) 0 (j / n) (j % n) (reads_from table (source + j % n * n)))
       → worth_of absent (choice_of o) ≡ entry_over want next w h k source j givens table
   entry_best z o F =
       rw en at (found_entry want next w h givens table (h - k) source (j / n) (j % n) (source + j % n * n) t (rw en) (rw eb at et) o F k z refl)
+
+-- ---- what the tests before the choice of a row show: the row is one of the grid, those above it are rows, and its givens and entries are lent
+pub record ChoiceLent (want : Want) (w h r source above last n : ℕ) (givens table : List ℕ) : Type 0 where
+  pub width : Width want.halves w
+  pub wide : w ≤ max_mirror_width
+  pub inside : r < h
+  pub low : r ≤ max_height
+  pub codes : n ≡ 2 ^ digits_of want w
+  pub layer : layer_fits (digits_of want w) (length table) source ≡ true
+  pub above_lt : above < 2 ^ digits_of want w
+  pub last_lt : last < 2 ^ digits_of want w
+  pub cells : r * w + w ≤ length givens
+  pub few : length givens ≤ max_mirror_width * max_height
+  pub entries : source + last * n + 2 ^ digits_of want w ≤ length table
+
+pub choice_lent : (want : Want) (w h r source above last n : ℕ) (givens table : List ℕ) {bits : ℕ} {fits layer : Bool}
+    → fits ≡ call_fits want w h givens → fits ≡ true → r < h → bits ≡ digits_of want w → layer ≡ layer_fits bits (length table) source → layer ≡ true
+    → n ≡ 2 ^ bits → above < n → last < n → ChoiceLent want w h r source above last n givens table
+choice_lent want w h r source above last n givens table e f i b l t c p q =
+    let M = call_memory want w h givens (sym e ∙ f) in
+    let wide : w ≤ max_mirror_width = width_le want.halves w M.width in
+    let codes : n ≡ 2 ^ digits_of want w = rw b at c in
+    let layer : layer_fits (digits_of want w) (length table) source ≡ true = rw b at (sym l ∙ t) in
+    let last_lt : last < 2 ^ digits_of want w = rw codes at q in
+    record {
+      width = M.width;
+      wide = wide;
+      inside = i;
+      low = omega (arith, M.low);
+      codes = codes;
+      layer = layer;
+      above_lt = rw codes at p;
+      last_lt = last_lt;
+      cells = rw M.marks (row_room w h r i);
+      few = rw M.marks (mul-le-mul wide M.low);
+      entries = layer_room (digits_of want w) source last n (length table) codes last_lt (leb-true (source + 4 ^ digits_of want w) (length table) layer);
+    }
