@@ -13,18 +13,14 @@ use job_kind::Kind;
 use rule::Rule;
 
 // Whether the units, which are in round x, fit the end mark.
+#[tactic(auto, unfolding(elimination::specs::Shape::units_fit), using(crate::proofs::Rounds::runs_same, crate::proofs::Rounds::ends_same, crate::proofs::Rounds::ends_not))]
 fn units_fit(kind: Kind, w: usize, h: usize, units: usize, x: Round, mark: usize) -> bool
     requires { Width (halves_of kind) w × (h ≤ max_height) × RoundIs kind w h units x }
     ensures { result ≡ units_fit (shape_of kind w h) units mark }
 {
     match mark {
         0 => x.rows < h,
-        1 => {
-            if x.rows < h {
-                return false;
-            }
-            x.place == 0
-        }
+        1 => h <= x.rows && x.place == 0,
         2 => units == board::table_size(kind.row_digits(w), h) + 1,
         _ => false,
     }
@@ -35,26 +31,16 @@ fn rows_chosen(kind: Kind, w: usize, h: usize, units: usize, x: Round, mark: usi
     requires { (0 < h) × RoundIs kind w h units x × (units_fit (shape_of kind w h) units mark ≡ true) }
     ensures { (result ≡ rows_chosen (shape_of kind w h) units mark) × (result ≤ h) }
 {
-    if mark == 2 {
-        return 0;
-    }
-    x.rows
+    if mark == 2 { 0 } else { x.rows }
 }
 
 // Whether the rows and the live cells fit k rows chosen.
+#[tactic(auto, unfolding(elimination::specs::Shape::rows_fit))]
 fn rows_fit(w: usize, k: usize, above: usize, last: usize, live: usize) -> bool
     requires { (w ≤ max_mirror_width) × (k ≤ max_height) }
     ensures { result ≡ rows_fit w k above last live }
 {
-    if w * k < live {
-        return false;
-    }
-    if k == 0 {
-        if last != 0 {
-            return false;
-        }
-    }
-    if k < 2 { above == 0 } else { true }
+    live <= w * k && (k != 0 || last == 0) && (k >= 2 || above == 0)
 }
 
 // The rule of a paused job.
@@ -95,6 +81,7 @@ pub fn checkpoint_fits(kind: Kind, t: Checkpoint) -> bool
 }
 
 // Whether a running job's stage is the task of its next unit.
+#[tactic(auto, using(crate::proofs::Rounds::fills_left, crate::proofs::Rounds::chooses_left))]
 fn stage_fits(kind: Kind, w: usize, h: usize, units: usize, stage: Stage) -> bool
     requires { Width (halves_of kind) w × (h ≤ max_height) }
     ensures { result ≡ stage_fits (shape_of kind w h) units stage }
@@ -109,6 +96,7 @@ fn stage_fits(kind: Kind, w: usize, h: usize, units: usize, stage: Stage) -> boo
 }
 
 // Whether pausing and working take the job.
+#[tactic(auto, unfolding(crate::specs::Jobs::job_fits))]
 pub fn job_fits(job: Job) -> bool
     ensures { result ≡ job_fits job }
 {
@@ -121,7 +109,7 @@ pub fn job_fits(job: Job) -> bool
 }
 
 // The numbers that a stage carries.
-#[derive(Clone, Copy)]
+#[derive(Clone, Copy, Debug, PartialEq, Eq)]
 pub struct Kept {
     pub above: usize,
     pub last: usize,
@@ -183,6 +171,7 @@ pub fn numbers_of(job: Job) -> Checkpoint
 }
 
 // The stage that numbers of a kind give.
+#[tactic(auto, unfolding(crate::specs::Jobs::stage_of), using(crate::proofs::Rounds::fills_left))]
 fn stage_of(kind: Kind, t: Checkpoint) -> Stage
     requires { Width (halves_of kind) t.width × (t.height ≤ max_height) }
     ensures { result ≡ stage_of kind t }

@@ -10,7 +10,7 @@ use crate::Task;
 use job_kind::Kind;
 
 // The round of a unit: the rows chosen before it, its place in the round, and the entries that are left to fill in the round, its own counted.
-#[derive(Clone, Copy)]
+#[derive(Clone, Copy, Debug, PartialEq, Eq)]
 pub struct Round {
     pub rows: usize,
     pub place: usize,
@@ -26,6 +26,7 @@ fn entries(kind: Kind, w: usize, layers: usize) -> usize
 }
 
 // The entries filled in the round of the row that has r rows above it.
+#[tactic(auto, using(job_kind::proofs::Shapes::work_first, job_kind::proofs::Shapes::work_later))]
 fn work_before(kind: Kind, w: usize, h: usize, r: usize) -> usize
     requires { Width (halves_of kind) w × (h ≤ max_height) × (r ≤ h) }
     ensures { (result ≡ round_work kind w h r) × (result ≤ 62914560) }
@@ -75,6 +76,7 @@ pub fn round_of(kind: Kind, w: usize, h: usize, units: usize) -> Round
 }
 
 // What a unit is to do; nothing past the job's length.
+#[tactic(auto, using(crate::proofs::Rounds::fills_entry, crate::proofs::Rounds::chooses_row, crate::proofs::Rounds::rows_spent))]
 pub fn task_at(kind: Kind, w: usize, h: usize, units: usize) -> Option<Task>
     requires { Width (halves_of kind) w × (h ≤ max_height) }
     ensures { option_map task_of result ≡ cond (ltb units (board_length kind w h)) (Some ((shape_of kind w h).plan units)) None }

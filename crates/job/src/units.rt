@@ -24,9 +24,10 @@ pub fn is_running(job: Job) -> bool
 }
 
 // After so many entries, where the next unit fills another one or not.
+#[tactic(auto, unfolding(crate::specs::Jobs::stage_of))]
 pub fn after_entries(job: Job, count: usize, more: bool) -> Job
-    requires count_bound { job.units + count < 2 ^ 64 }
-    requires more_value { more ≡ is_fill ((shape_of job.kind job.width job.height).plan (job.units + count)) }
+    requires no_overflow { job.units + count < 2 ^ 64 }
+    requires more_is_fill { more ≡ is_fill ((shape_of job.kind job.width job.height).plan (job.units + count)) }
     ensures { result ≡ job_with job (after_entries count (numbers_in (numbers_of job))) }
 {
     let kind = job.kind;
@@ -61,6 +62,7 @@ pub fn after_choice(job: Job, r: usize, chosen: Option<ChosenRow>) -> Job
 }
 
 // After a row.
+#[tactic(auto, using(crate::proofs::Next::units_few))]
 fn after_row(job: Job, r: usize, chosen: ChosenRow) -> Job
     requires { Width (halves_of job.kind) job.width × (job.height ≤ max_height) × (job.units < board_length job.kind job.width job.height) × (r ≤ job.units) }
     ensures { result ≡ after_choice (shape_of job.kind job.width job.height) r job (Some chosen) }
@@ -104,6 +106,7 @@ fn mark_after(h: usize, r: usize) -> usize
 }
 
 // Where no row can be chosen as row 1.
+#[tactic(auto, using(crate::proofs::Next::units_few))]
 fn after_none(job: Job) -> Job
     requires { Width (halves_of job.kind) job.width × (job.height ≤ max_height) × (job.units < board_length job.kind job.width job.height) }
     ensures { result ≡ job_with job (after_none (numbers_in (numbers_of job))) }

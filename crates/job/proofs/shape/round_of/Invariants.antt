@@ -1,12 +1,9 @@
 -- `job::shape::round_of` meets its contract. The loop's invariant: the unit is `place` units after the start of round `rows`.
 -- Assumes nothing.
 use mathlib.Core.Path.{◌≡◌}
-use Prim.Native.Nat.{◌+◌, ◌-◌, ◌≤◌}
+use Prim.Native.Nat.{◌+◌}
 use Rattle.job_kind.specs.Kinds.{round_start}
 use Rattle.job.proofs.shape.round_of.Given as goal
 
 abbrev pub invariant-loop-rows : goal.invariant-loop-rows
-invariant-loop-rows l = (l.rows ≤ l.h) × (l.units ≡ round_start l.kind l.w l.h l.rows + l.place)
-
-abbrev pub decreases-loop-rows : goal.decreases-loop-rows
-decreases-loop-rows l = l.h - l.rows
+invariant-loop-rows l = l.units ≡ round_start l.kind l.w l.h l.rows + l.place

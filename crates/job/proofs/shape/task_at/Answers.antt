@@ -1,28 +1,16 @@
 -- `job::shape::task_at` meets its contract: the unit's round says what it does.
 -- Assumes nothing.
-use native.Mathlib.Omega.{arith}
 use borrow.Author.Tests.{lt-ltb, le-ltb}
-use Rattle.job.proofs.Rounds.{fills_entry, chooses_row, rows_spent}
+use Rattle.job.proofs.Rounds.{fills_entry, rows_spent}
 use Rattle.job.proofs.shape.task_at.Goals as goal
 
 pub fill_at-requires : goal.fill_at-requires
-fill_at-requires c =
-    (c.requires.0, c.requires.1, (fills_entry c.round_of-x.ensures c.if-x-ne0.true).0)
+fill_at-requires c = (c.requires.0, c.requires.1, (fills_entry c.round_of-x.ensures c.if-x-ne0.true).0)
 
 pub returns-then-x-ne0 : goal.returns-then-x-ne0
 returns-then-x-ne0 c =
     let F = fills_entry c.round_of-x.ensures c.if-x-ne0.true in
-    rw (lt-ltb _ _ F.1, F.2) c.fill_at.ensures
-
-pub layer_start-source-requires : goal.layer_start-source-requires
-layer_start-source-requires c =
-    (c.requires.0, omega (arith, c.round_of-x.ensures.at.rows, c.requires.1))
-
-pub returns-then-x-h : goal.returns-then-x-h
-returns-then-x-h c =
-    let F = chooses_row c.round_of-x.ensures c.if-x-ne0.false c.if-x-h.true in
-    rw (lt-ltb _ _ F.0, F.1, c.layer_start-source.ensures)
+    rw (c.fill_at.ensures, lt-ltb _ _ F.1, F.2)
 
 pub returns : goal.returns
-returns c =
-    rw (le-ltb _ _ (rows_spent c.round_of-x.ensures c.if-x-h.false))
+returns c = rw (le-ltb _ _ (rows_spent c.round_of-x.ensures c.if-x-h.false))
