@@ -14,6 +14,9 @@ ghost use Rattle.std.specs.Prelude.{◌≡◌, option_map};
 ghost use Rattle.job.specs.Jobs.{numbers_of, task_due, task_of, after_unit, after_fills};
 ghost use Rattle.job.specs.Calls.{Opens, Pauses, Resumes};
 
+use shape::Shape;
+use units::Due;
+
 // What a job does next, with that stage's numbers: the last two rows chosen, and the live cells so far that were free, with a target all live cells.
 #[derive(Clone, Copy, Debug, PartialEq, Eq)]
 pub enum Stage {
@@ -116,7 +119,12 @@ impl Checkpoint {
         if !numbers::checkpoint_fits(kind, self) {
             return Err(Refusal::Checkpoint);
         }
-        Ok(numbers::job_of(kind, self))
+        let shape = Shape {
+            kind,
+            width: self.width,
+            height: self.height,
+        };
+        Ok(numbers::job_of(shape, self))
     }
 }
 
@@ -144,46 +152,59 @@ impl Job {
     pub fn task(self) -> Option<Task>
         ensures { option_map task_of result ≡ task_due self }
     {
-        let job = self;
-        if !units::is_running(job) {
+        if !units::is_running(self) {
             return None;
         }
-        let kind = job.kind;
-        shape::task_at(kind, job.width, job.height, job.units)
+        let shape = Shape {
+            kind: self.kind,
+            width: self.width,
+            height: self.height,
+        };
+        shape.task_at(self.units)
     }
 
     // The job after its unit: by its task, and where that chooses a row by what is chosen. Without a task it stays as it is.
     pub fn after(self, chosen: Option<ChosenRow>) -> Job
         ensures { result ≡ after_unit self chosen }
     {
-        let job = self;
-        if !units::is_running(job) {
-            return job;
+        if !units::is_running(self) {
+            return self;
         }
-        let kind = job.kind;
-        let x = shape::round_of(kind, job.width, job.height, job.units);
+        let shape = Shape {
+            kind: self.kind,
+            width: self.width,
+            height: self.height,
+        };
+        let x = shape.round_of(self.units);
         if x.left != 0 {
-            return units::after_entries(job, 1, x.left != 1);
+            return units::after_entries(self, 1, x.left != 1);
         }
-        if x.rows < job.height {
-            return units::after_choice(job, x.rows, chosen);
+        if x.rows < self.height {
+            let due = Due {
+                job: self,
+                rows: x.rows,
+            };
+            return due.after(chosen);
         }
-        job
+        self
     }
 
     // The job after so many entries. Where it doesn't run, or fewer are to be filled before the next row, it stays as it is.
     pub fn after_entries(self, count: usize) -> Job
         ensures { result ≡ after_fills count self }
     {
-        let job = self;
-        if !units::is_running(job) {
-            return job;
+        if !units::is_running(self) {
+            return self;
         }
-        let kind = job.kind;
-        let x = shape::round_of(kind, job.width, job.height, job.units);
+        let shape = Shape {
+            kind: self.kind,
+            width: self.width,
+            height: self.height,
+        };
+        let x = shape.round_of(self.units);
         if x.left < count {
-            return job;
+            return self;
         }
-        units::after_entries(job, count, x.left != count)
+        units::after_entries(self, count, x.left != count)
     }
 }

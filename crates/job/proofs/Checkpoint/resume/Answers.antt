@@ -4,5 +4,7 @@ use mathlib.Core.Path.{sym, ◌∙◌}
 use Rattle.job.proofs.Fits.{numbers_at}
 use Rattle.job.proofs.Checkpoint.resume.Goals as goal
 
-pub job_of-requires : goal.job_of-requires
-job_of-requires c = let s = (numbers_at _ _ (sym c.checkpoint_fits.ensures ∙ c.if-not-checkpoint_fits.false)).frame.size in (s.width, s.low)
+pub invariant_of-shape : goal.invariant_of-shape
+invariant_of-shape c =
+    let s = (numbers_at _ _ (sym c.checkpoint_fits.ensures ∙ c.if-not-checkpoint_fits.false)).frame.size in
+    record { narrow = s.width; low = s.low }

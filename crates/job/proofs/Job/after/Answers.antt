@@ -10,6 +10,11 @@ use Rattle.job.proofs.Job.after.Goals as goal
 pub returns-then-not-is_running : goal.returns-then-not-is_running
 returns-then-not-is_running c = after_never _ (sym c.is_running.ensures ∙ c.if-not-is_running.true) _
 
+pub invariant_of-shape : goal.invariant_of-shape
+invariant_of-shape c =
+    let p = runs_within_lem c.args.self (sym c.is_running.ensures ∙ c.if-not-is_running.false) in
+    record { narrow = p.0; low = p.1 }
+
 -- its units fit 64 bits
 pub after_entries-requires-clause-no_overflow : goal.after_entries-requires-clause-no_overflow
 after_entries-requires-clause-no_overflow c =
@@ -26,16 +31,16 @@ pub returns-then-x-ne0 : goal.returns-then-x-ne0
 returns-then-x-ne0 c =
     c.after_entries.ensures ∙ after_fills_lem _ (sym c.is_running.ensures ∙ c.if-not-is_running.false) c.round_of-x.ensures _ c.if-x-ne0.true
 
-pub after_choice-requires : goal.after_choice-requires
-after_choice-requires c =
+pub invariant_of-due : goal.invariant_of-due
+invariant_of-due c =
     let p = runs_within_lem c.args.self (sym c.is_running.ensures ∙ c.if-not-is_running.false) in
     let R = c.round_of-x.ensures in
-    (p.0, p.1, rows_left R c.if-x-job.true, rows_early c.args.self R c.if-x-ne0.false c.if-x-job.true)
+    record { narrow = p.0; low = p.1; left = rows_left R c.if-x-self.true; early = rows_early c.args.self R c.if-x-ne0.false c.if-x-self.true }
 
-pub returns-then-x-job : goal.returns-then-x-job
-returns-then-x-job c =
-    c.after_choice.ensures
-    ∙ after_chooses _ (sym c.is_running.ensures ∙ c.if-not-is_running.false) c.round_of-x.ensures _ c.if-x-ne0.false c.if-x-job.true
+pub returns-then-x-self : goal.returns-then-x-self
+returns-then-x-self c =
+    c.after.ensures
+    ∙ after_chooses _ (sym c.is_running.ensures ∙ c.if-not-is_running.false) c.round_of-x.ensures _ c.if-x-ne0.false c.if-x-self.true
 
 pub returns : goal.returns
-returns c = after_spent _ (sym c.is_running.ensures ∙ c.if-not-is_running.false) c.round_of-x.ensures _ c.if-x-job.false
+returns c = after_spent _ (sym c.is_running.ensures ∙ c.if-not-is_running.false) c.round_of-x.ensures _ c.if-x-self.false

@@ -12,6 +12,11 @@ returns-then-not-is_running c = entries_never _ _ (sym c.is_running.ensures ∙ 
 pub returns-then-x-count : goal.returns-then-x-count
 returns-then-x-count c = entries_few _ _ (sym c.is_running.ensures ∙ c.if-not-is_running.false) c.round_of-x.ensures c.if-x-count.true
 
+pub invariant_of-shape : goal.invariant_of-shape
+invariant_of-shape c =
+    let p = runs_within_lem c.args.self (sym c.is_running.ensures ∙ c.if-not-is_running.false) in
+    record { narrow = p.0; low = p.1 }
+
 -- its units fit 64 bits
 pub after_entries-requires-clause-no_overflow : goal.after_entries-requires-clause-no_overflow
 after_entries-requires-clause-no_overflow c =

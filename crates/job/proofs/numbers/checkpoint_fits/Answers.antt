@@ -24,11 +24,11 @@ returns-then-is_err c =
           (sym c.is_err.ensures.value ∙ c.if-is_err.true),
     )
 
-pub overflow_shr-t : goal.overflow_shr-t
-overflow_shr-t c =
+pub invariant_of-shape : goal.invariant_of-shape
+invariant_of-shape c =
     let a = c.args in
     let F = passed_frame a.kind (rule_of a.t) a.t.width a.t.height _ (rw (c.rule_of.ensures, c.halves.ensures) at c.check.ensures) (sym c.is_err.ensures.value ∙ c.if-is_err.false) in
-    rw c.row_digits-digits.ensures (omega (arith, F.size.width.narrow))
+    record { narrow = F.size.width; low = F.size.low }
 
 pub returns-then-t-digits-ne0 : goal.returns-then-t-digits-ne0
 unfolding checkpoint_fits numbers_fit
@@ -38,14 +38,8 @@ returns-then-t-digits-ne0 c =
     simp (
       eq-eqb _ _ (c.if-t-number.false ∙ c.number.ensures),
       frame_fits F,
-      le-ltb _ _ (shift_some _ _ (rw c.row_digits-digits.ensures at c.if-t-digits-ne0.true)),
+      le-ltb _ _ (shift_some _ _ (rw c.row_digits-digits.ensures.0 at c.if-t-digits-ne0.true)),
     )
-
-pub overflow_shr-t-2 : goal.overflow_shr-t-2
-overflow_shr-t-2 c =
-    let a = c.args in
-    let F = passed_frame a.kind (rule_of a.t) a.t.width a.t.height _ (rw (c.rule_of.ensures, c.halves.ensures) at c.check.ensures) (sym c.is_err.ensures.value ∙ c.if-is_err.false) in
-    rw c.row_digits-digits.ensures (omega (arith, F.size.width.narrow))
 
 pub returns-then-t-digits-ne0-2 : goal.returns-then-t-digits-ne0-2
 unfolding checkpoint_fits numbers_fit
@@ -55,21 +49,9 @@ returns-then-t-digits-ne0-2 c =
     simp (
       eq-eqb _ _ (c.if-t-number.false ∙ c.number.ensures),
       frame_fits F,
-      lt-ltb _ _ (shift_none _ _ (rw c.row_digits-digits.ensures at c.if-t-digits-ne0.false)),
-      le-ltb _ _ (shift_some _ _ (rw c.row_digits-digits.ensures at c.if-t-digits-ne0-2.true)),
+      lt-ltb _ _ (shift_none _ _ (rw c.row_digits-digits.ensures.0 at c.if-t-digits-ne0.false)),
+      le-ltb _ _ (shift_some _ _ (rw c.row_digits-digits.ensures.0 at c.if-t-digits-ne0-2.true)),
     )
-
-pub round_of-x-requires : goal.round_of-x-requires
-round_of-x-requires c =
-    let a = c.args in
-    let F = passed_frame a.kind (rule_of a.t) a.t.width a.t.height _ (rw (c.rule_of.ensures, c.halves.ensures) at c.check.ensures) (sym c.is_err.ensures.value ∙ c.if-is_err.false) in
-    (F.size.width, F.size.low)
-
-pub units_fit-requires : goal.units_fit-requires
-units_fit-requires c =
-    let a = c.args in
-    let F = passed_frame a.kind (rule_of a.t) a.t.width a.t.height _ (rw (c.rule_of.ensures, c.halves.ensures) at c.check.ensures) (sym c.is_err.ensures.value ∙ c.if-is_err.false) in
-    (F.size.width, F.size.low, c.round_of-x.ensures)
 
 pub returns-then-not-units_fit : goal.returns-then-not-units_fit
 unfolding checkpoint_fits numbers_fit
@@ -79,8 +61,8 @@ returns-then-not-units_fit c =
     simp (
       eq-eqb _ _ (c.if-t-number.false ∙ c.number.ensures),
       frame_fits F,
-      lt-ltb _ _ (shift_none _ _ (rw c.row_digits-digits.ensures at c.if-t-digits-ne0.false)),
-      lt-ltb _ _ (shift_none _ _ (rw c.row_digits-digits.ensures at c.if-t-digits-ne0-2.false)),
+      lt-ltb _ _ (shift_none _ _ (rw c.row_digits-digits.ensures.0 at c.if-t-digits-ne0.false)),
+      lt-ltb _ _ (shift_none _ _ (rw c.row_digits-digits.ensures.0 at c.if-t-digits-ne0-2.false)),
       sym c.units_fit.ensures ∙ c.if-not-units_fit.true,
     )
 
@@ -105,7 +87,7 @@ returns c =
     (simp (
       eq-eqb _ _ (c.if-t-number.false ∙ c.number.ensures),
       frame_fits F,
-      lt-ltb _ _ (shift_none _ _ (rw c.row_digits-digits.ensures at c.if-t-digits-ne0.false)),
-      lt-ltb _ _ (shift_none _ _ (rw c.row_digits-digits.ensures at c.if-t-digits-ne0-2.false)),
+      lt-ltb _ _ (shift_none _ _ (rw c.row_digits-digits.ensures.0 at c.if-t-digits-ne0.false)),
+      lt-ltb _ _ (shift_none _ _ (rw c.row_digits-digits.ensures.0 at c.if-t-digits-ne0-2.false)),
       sym c.units_fit.ensures ∙ c.if-not-units_fit.false,
     ))

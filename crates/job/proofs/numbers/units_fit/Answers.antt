@@ -11,15 +11,15 @@ use Rattle.job.proofs.numbers.units_fit.Goals as goal
 
 pub overflow_add-result : goal.overflow_add-result
 overflow_add-result c =
-    let p = c.requires in
-    rw (rw c.row_digits.ensures at c.table_size.ensures ∙ table_within p.0.narrow p.1) (omega (arith, table_le p.0.narrow p.1))
+    let S = c.args.shape in
+    rw (rw c.row_digits.ensures.0 at c.table_size.ensures ∙ table_within S.narrow.narrow S.low) (omega (arith, table_le S.narrow.narrow S.low))
 
-pub returns-else-h-x : goal.returns-else-h-x
+pub returns-else-shape-x : goal.returns-else-shape-x
 unfolding units_fit
-returns-else-h-x c = simp (c.in-1.is, ends_not c.requires.2 (omega arith), lt-leb c.args.h c.args.x.rows (omega arith))
+returns-else-shape-x c = simp (c.in-1.is, ends_not c.requires (omega arith), lt-leb c.args.shape.height c.args.x.rows (omega arith))
 
 pub returns-in-2 : goal.returns-in-2
 unfolding units_fit table_size
 returns-in-2 c =
-    let p = c.requires in
-    rw (rw c.row_digits.ensures at c.table_size.ensures ∙ table_within p.0.narrow p.1) (simp c.in-2.is)
+    let S = c.args.shape in
+    rw (rw c.row_digits.ensures.0 at c.table_size.ensures ∙ table_within S.narrow.narrow S.low) (simp c.in-2.is)

@@ -1,9 +1,0 @@
--- `job::shape::work_before` meets its contract: the whole table is filled before row 1 alone.
--- Assumes nothing.
-use mathlib.Core.Path.{sym, ◌∙◌}
-use native.Mathlib.Omega.{arith}
-use Rattle.job_kind.proofs.Shapes.{work_later}
-use Rattle.job.proofs.shape.work_before.Goals as goal
-
-pub returns-then-r-ne0 : goal.returns-then-r-ne0
-returns-then-r-ne0 c = let a = c.args in (work_later a.kind a.w a.h a.r (sym c.refills.ensures ∙ c.if-refills.false) c.if-r-ne0.true, omega arith)
