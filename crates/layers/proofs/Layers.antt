@@ -12,7 +12,8 @@ use native.Mathlib.Decide.{dec_lt}
 use lib.Arith.{digits_lt}
 use lib.Dec.{eqb, leb}
 use lib.ListN.{length, get_or, replicate, length-replicate}
-use lib.Pow.{pow_pos}
+use lib.Pow.{pow_pos, pow-add}
+use Rattle.std.specs.Int.{abs_diff}
 use borrow.Author.Tests.{lt-ltb, le-ltb, lt-leb, le-leb, leb-true, eq-eqb, ne_eqb, eqb-true, eqb-false, not-true}
 use Rattle.board.specs.Boards.{max_width}
 use Rattle.board.proofs.Powers.{two_le, four_two}
@@ -73,6 +74,13 @@ module _ (limit : ℕ) (next : ℕ → ℕ) (w source target : ℕ) (gains : ℕ
 -- a vector is at least as long as it is used
 vector_fits : {w n : ℕ} → w ≤ max_width → n ≡ 32768 → 32 * 2 ^ w ≤ n
 vector_fits {w} l e = let m : 2 ^ w ≤ 1024 = two_le l in omega arith
+
+-- rows come in eights
+pub eights : (w n : ℕ) → 3 ≤ w → n ≡ 2 ^ w → 8 * (n / 8) ≡ 2 ^ w
+eights w n l e =
+    let d : w ≡ 3 + (w - 3) = omega arith in
+    let f : 2 ^ w ≡ 8 * 2 ^ (w - 3) = ap (λ (x : ℕ). 2 ^ x) d ∙ pow-add 2 3 (w - 3) in
+    rw e (omega arith)
 
 -- what is asked by the number of rows
 pub rows_room : {w n : ℕ} (b target long : ℕ) → w ≤ max_width → n ≡ 2 ^ w → b + 8 ≤ 2 ^ w → target + 2 ^ w * 2 ^ w ≤ long
@@ -204,6 +212,17 @@ module _ (want : Want) (w k source target count : ℕ) where
             pub once_apart : count ≡ 4 ^ w → are_apart source target (4 ^ w) ≡ at_once want w k source target count
             unfolding at_once
             once_apart c = rw (e, f, t, le-leb narrowest w l, ne_eqb k 0 z, eq-eqb count (4 ^ w) c)
+
+-- the distance of the two starts, whichever comes first
+pub apart_diff : (source target q : ℕ) → leb q (abs_diff source target) ≡ are_apart source target q
+apart_diff source target q =
+    elim (dec_lt source target) [
+      | yes l ↦ let e : abs_diff source target ≡ target - source = omega arith in rw (e, lt-ltb source target l)
+      | no l ↦
+          let m : target ≤ source = omega arith in
+          let e : abs_diff source target ≡ source - target = omega arith in
+          rw (e, le-ltb source target m)
+    ]
 
 apart_are : (source target q : ℕ) → are_apart source target q ≡ true → Apart q source target
 apart_are source target q e =
