@@ -11,7 +11,10 @@ use native.Mathlib.Omega.{arith}
 use native.Mathlib.Decide.{dec_lt}
 use lib.Arith.{digits_lt}
 use lib.Dec.{eqb, leb}
-use lib.ListN.{length, get_or, replicate, length-replicate}
+use lib.ListN.{length, get_or, replicate, length-replicate, drop, length-take, length-drop}
+use borrow.Rule.Slice.PartMut.{mid_of, put_mid}
+use borrow.Author.Rules.{rules}
+use Rattle.std.proofs.lemmas.List.{places}
 use lib.Pow.{pow_pos, pow-add}
 use Rattle.std.specs.Int.{abs_diff}
 use borrow.Author.Tests.{lt-ltb, le-ltb, lt-leb, le-leb, leb-true, eq-eqb, ne_eqb, eqb-true, eqb-false, not-true}
@@ -96,6 +99,22 @@ pub loaded_holds : {w n : ℕ} (limit b : ℕ) (worth table : List ℕ) (first :
     → Wrote 0 (32 * n) (loaded limit n worth table first) old new
     → (next : ℕ → ℕ) → VectorHolds next w b (λ l. start_number limit w (λ c. get_or worth c 0) (λ c. get_or table (first + l * 2 ^ w + c) 0)) 0 new
 loaded_holds {w} limit b worth table first narrow e long W next = load_holds next limit w b worth table first (rw e at W) (vector_fits narrow long)
+
+-- zeros from one place of a vector to another
+pub zeros_wrote : (a m : ℕ) (xs ys : List ℕ) → a + m ≤ length xs → length ys ≡ length (mid_of a m xs)
+    → ((k d : ℕ) → k < length (mid_of a m xs) → ◌≡◌ {A = ℕ} 0 0 → get_or ys k d ≡ 0) → Wrote a m (λ y. 0) xs (put_mid a m xs ys)
+zeros_wrote a m xs ys p l f =
+    let n : length (mid_of a m xs) ≡ m = omega (arith, length-take m (drop a xs), length-drop a xs) in
+    let q : length ys ≡ m = l ∙ n in
+    record {
+      long = search (rules, places);
+      inside = λ y h i.
+          let z : get_or ys y 0 ≡ 0 = f y 0 (omega arith) refl in
+          let e : get_or (put_mid a m xs ys) (a + y) 0 ≡ get_or ys y 0 = grind (arith, places) in
+          e ∙ z;
+      before = λ k h. grind (arith, places);
+      after = λ k h. grind (arith, places);
+    }
 
 -- in new arrays: what rows earn, and the masks of the patterns
 pub gains_are : {w : ℕ} (givens : List ℕ) (at : ℕ) {worth : List ℕ} → w ≤ max_width → Wrote 0 (2 ^ w) (row_gain w givens at) (replicate 1024 0) worth

@@ -123,9 +123,7 @@ fn load(rows: Rows<'_>, table: &[u16], first: usize, vector: &mut [u16; VECTOR])
             8 * c,
         );
     }
-    for z in 8 * n..32 * n {
-        vector[z] = 0;
-    }
+    vector[8 * n..32 * n].fill(0);
 }
 
 // Loads the numbers of one row c, by its gain, for eight rows b.
