@@ -20,7 +20,7 @@ use Rattle.job_kind.specs.Kinds.{has_target, kind_digits, shape_of}
 use Rattle.job.specs.Jobs.{above_of, last_of, mark_of, live_of, job_fits, task_due, job_with, after_unit, after_fills}
 use Rattle.job.specs.declared.Job.{Job}
 use Rattle.job_kind.proofs.Shapes.{shape_rounds}
-use Rattle.job.proofs.Next.{fits_until, due_none, entries_none, entries_here, entries_more, after_run, after_row_lem, after_none_lem}
+use Rattle.job.proofs.Next.{fits_rows, fits_until, due_none, entries_none, entries_here, entries_more, after_run, after_row_lem, after_none_lem}
 use Rattle.service.specs.Service.{next, spoiled, works_on, stage_says}
 use Rattle.service.specs.Units.{here, row_step, mark_step, unit_by}
 use Rattle.service.proofs.Calls.{works_none, works_next, works_still, works_spoiled}
@@ -32,7 +32,16 @@ use Rattle.elimination.proofs.Candidates.{RowBelow}
 use Rattle.elimination.proofs.Kind.{choose_below}
 use Rattle.elimination.proofs.Table.{fill_none, fill_more}
 use Rattle.elimination.proofs.Rounds.{fill_run}
-use Rattle.third_demand.proofs.UnitLaws.{unit_fits, unit_lent, row_in}
+use Rattle.third_demand.proofs.UnitLaws.{unit_fits, unit_lent, row_in, lent_memory}
+use Rattle.third_demand.proofs.Agreement.{picked}
+use Rattle.rule.specs.Rule.{Holds, next_under, entry_of}
+use Rattle.score_table.specs.Calls.{row_picked, picked_of}
+use Rattle.score_table.proofs.Calls.{picked_nothing, picked_row}
+use Rattle.board.specs.declared.ChosenRow.{ChosenRow}
+use Rattle.board_rows.specs.Calls.{row_writes}
+use Rattle.board_rows.proofs.Writing.{writes_inside}
+use Rattle.score_table.proofs.EntryLaws.{row_room}
+use lib.ListN.{length}
 
 next_not_spoiled : {j : Job} {A : Type 0} → Some j ≡ None → A
 next_not_spoiled e = absurd (let z : ◌≡◌ {A = ℕ} 0 1 = cc in omega arith)
@@ -95,11 +104,15 @@ module _ (j : Job) (r source : ℕ) (g t β : List ℕ) (C : Chooses j r source 
       choose (grid_rows j.kind j.rule j.width j.height g) (j.height - suc r) (above_of j.stage) (last_of j.stage)
       (reads (grid_rows j.kind j.rule j.width j.height g) t source (last_of j.stage))
 
+  -- the row's cells are within the board
+  cells_room : suc r * j.width ≤ length β
+  cells_room = omega (arith, C.lent.cells, row_room j.width j.height r (row_in C).inside)
+
   comes : (o : Choice ℕ) → choice ≡ o → row_step (setup_of j.kind j.rule j.width j.height g) r (lent_state j t β) o ≡ unit_of g (lent_state j t β)
   comes o f =
       sym (unit_choose j g t β r source C.running C.task ∙ ap (row_step (setup_of j.kind j.rule j.width j.height g) r (lent_state j t β)) f)
 
-  pub moves_row : (c n : ℕ) → choice ≡ chosen c n → (j' : Job) → j' ≡ after_unit j (Some (record { row = c; worth = row_worth j.width marks (r * j.width) (row_is c) }))
+  moves_row : (c n : ℕ) → choice ≡ chosen c n → (j' : Job) → j' ≡ after_unit j (Some (record { row = c; worth = row_worth j.width marks (r * j.width) (row_is c) }))
       → Moves j g t β (Some j') t (put_row (kind_digits j.kind j.width) j.width r c β)
   moves_row c n f j' q =
       let live = live_of j.stage in
@@ -112,7 +125,7 @@ module _ (j : Job) (r source : ℕ) (g t β : List ℕ) (C : Chooses j r source 
       ∙ ap (λ (k : ℕ). job_with j (after_row j.height r c (row_worth j.width marks (k * j.width) (row_is c) + live) (here j))) (sym d) in
       moved_on (ap (λ (i : Job). next (lent_state i t (put_row (kind_digits j.kind j.width) j.width r c β))) same ∙ comes (chosen c n) f)
 
-  pub moves_none : r ≡ 0 → choice ≡ nothing → (j' : Job) → j' ≡ after_unit j None → Moves j g t β (Some j') t β
+  moves_none : r ≡ 0 → choice ≡ nothing → (j' : Job) → j' ≡ after_unit j None → Moves j g t β (Some j') t β
   moves_none z f j' q =
       let p : (shape_of j.kind j.width j.height).plan j.units ≡ row 0 source = C.task ∙ ap (λ (k : ℕ). row k source) z in
       moved_on (rw (q, after_none_lem j C.lent.taken C.running p) (go r z ∙ comes nothing f))
@@ -122,12 +135,34 @@ module _ (j : Job) (r source : ℕ) (g t β : List ℕ) (C : Chooses j r source 
       go zero p = refl
       go (suc k) p = absurd (omega arith)
 
-  pub moves_spoiled : (r ≡ 0 → ⊥) → choice ≡ nothing → Moves j g t β None t β
+  moves_spoiled : (r ≡ 0 → ⊥) → choice ≡ nothing → Moves j g t β None t β
   moves_spoiled n f = record { step = go r n ∙ comes nothing f; spoiled = λ x. (refl, refl) }
     where
       go : (k : ℕ) → (k ≡ 0 → ⊥) → spoiled ≡ row_step (setup_of j.kind j.rule j.width j.height g) k (lent_state j t β) nothing
       go zero p = absurd (p refl)
       go (suc k) p = refl
+
+  -- ---- the same, by what `choose_row` answers
+  module _ {o : Option ChosenRow} (table : List ℕ) (H : Holds (next_under j.rule) table)
+      (picks : o ≡ picked_of (want_by j.kind) j.width g r (row_picked (want_by j.kind) (entry_of table) j.width j.height r source (above_of j.stage) (last_of j.stage) g t)) where
+    told : o ≡ picked_of (want_by j.kind) j.width g r choice
+    told =
+        let F = fits_rows j C.lent.taken in
+        let R = row_in C in
+        picks ∙ ap (picked_of (want_by j.kind) j.width g r) (picked _ _ H j.kind _ _ _ _ (lent_memory C.lent) _ _ _ _ R.inside R.layer F.0 F.1)
+
+    pub spoils : o ≡ None → (r ≡ 0 → ⊥) → Moves j g t β None t β
+    spoils e n = moves_spoiled n (picked_nothing (want_by j.kind) j.width g r choice (sym e ∙ told))
+
+    pub ends_by_none : o ≡ None → r ≡ 0 → (j' : Job) → j' ≡ after_unit j o → Moves j g t β (Some j') t β
+    ends_by_none e z j' q = moves_none z (picked_nothing (want_by j.kind) j.width g r choice (sym e ∙ told)) j' (q ∙ ap (after_unit j) e)
+
+    pub goes_on_by_row : (c : ChosenRow) → o ≡ Some c → (j' : Job) → j' ≡ after_unit j (Some c)
+        → (β' : List ℕ) → β' ≡ row_writes (kind_digits j.kind j.width) j.width r c.row β → Moves j g t β (Some j') t β'
+    goes_on_by_row c e j' q β' b =
+        let P = picked_row (want_by j.kind) j.width g r choice c (sym e ∙ told) in
+        let same : c ≡ record { row = c.row; worth = row_worth j.width marks (r * j.width) (row_is c.row) } = rw (← P.worth) refl in
+        rw (b ∙ writes_inside _ _ _ _ _ cells_room) (moves_row c.row P.sum P.is j' (q ∙ ap (λ (x : ChosenRow). after_unit j (Some x)) same))
 
 -- ---- a call's units
 -- where a call goes on from a later state: what is left comes to the same, and the checks would still pass

@@ -14,6 +14,7 @@ use job::{Job, Stage, Task};
 use score_table::Entries;
 
 // The checks of a working call: 7 as pausing, then 3, 4, 14, 15, 5, 6; with a target 3, 4, 5, 6.
+#[tactic(auto, unfolding(service::specs::Service::work_check, third_demand::specs::Units::lent_check, job::specs::Jobs::pause_rule))]
 pub fn check_work(job: Job, givens: &[u8], table: &[u16], board: &[u8]) -> Result<(), Refusal>
     ensures { check_says result ≡ work_check grid job givens.now table.now board.now }
 {
@@ -42,6 +43,7 @@ fn status_of(stage: Stage) -> Status
 
 // The entries to fill at once, from one of a layer on, where a row's number has so many binary digits: what the layer has left or the allowance,
 // whichever is less.
+#[tactic(auto, using(board::proofs::Powers::table_within, board::proofs::Powers::table_one))]
 fn entries_now(digits: usize, entry: usize, left: usize) -> usize
     requires { (digits ≤ max_width) × (entry < 4 ^ digits) }
     ensures { result ≡ min (4 ^ digits - entry) left }
@@ -66,12 +68,14 @@ pub fn work_on(
     let mut left = allowance as usize;
     while left != 0 {
         match job.task() {
-            Some(Task::Fill {
-                after,
-                source,
-                target,
-                entry,
-            }) => {
+            Some(
+                Task::Fill {
+                    after,
+                    source,
+                    target,
+                    entry,
+                },
+            ) => {
                 let kind = job.kind;
                 let count = entries_now(kind.row_digits(job.width), entry, left);
                 let entries = Entries {
@@ -86,7 +90,8 @@ pub fn work_on(
                 left -= count;
             }
             Some(Task::Choose { row, source }) => {
-                let Some(next_job) = choosing::choose(&next, job, row, source, givens, table, board) else {
+                let Some(next_job) = choosing::choose(&next, job, row, source, givens, table, board)
+                else {
                     return Worked {
                         job, // before the row
                         status: Err(Refusal::SpoiledTable),
