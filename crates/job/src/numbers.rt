@@ -55,6 +55,7 @@ fn rule_of(t: Checkpoint) -> Rule
 }
 
 // Whether resuming as a kind takes the numbers.
+#[tactic(auto, unfolding(crate::specs::Jobs::checkpoint_fits, elimination::specs::Shape::numbers_fit))]
 pub fn checkpoint_fits(kind: Kind, t: Checkpoint) -> bool
     ensures { result ≡ checkpoint_fits kind t }
 {
@@ -69,11 +70,7 @@ pub fn checkpoint_fits(kind: Kind, t: Checkpoint) -> bool
         width: t.width,
         height: t.height,
     };
-    let digits = shape.row_digits();
-    if t.above >> digits != 0 {
-        return false;
-    }
-    if t.last >> digits != 0 {
+    if !shape.is_row(t.above) || !shape.is_row(t.last) {
         return false;
     }
     let x = shape.round_of(t.units);

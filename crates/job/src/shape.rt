@@ -35,6 +35,14 @@ impl Shape {
         self.kind.row_digits(self.width)
     }
 
+    // Whether a number is that of a row.
+    #[tactic(auto, using(crate::proofs::Checkpoints::shift_none, crate::proofs::Checkpoints::shift_some))]
+    pub fn is_row(self, number: usize) -> bool
+        ensures { result ≡ ltb number (2 ^ kind_digits self.kind self.width) }
+    {
+        number >> self.row_digits() == 0
+    }
+
     // The entries of so many layers.
     fn entries(self, layers: usize) -> usize
         requires { layers ≤ max_height }

@@ -73,7 +73,7 @@ impl Due {
             height: job.height,
         };
         let t = numbers::numbers_of(job);
-        if chosen.row >> shape.row_digits() != 0 {
+        if !shape.is_row(chosen.row) {
             return job;
         }
         if job.width < chosen.worth {
