@@ -125,26 +125,11 @@ fn part(
     ensures { Wrote o (8 * n) (λ y. mix src.now masks.now (i + y) (k + y) m (y % 8)) dst.old dst.new }
 {
     for x in 0..n {
-        lanes(src, i + 8 * x, k + 8 * x, masks, m, dst, o + 8 * x);
-    }
-}
-
-// Eight lanes: the greater of two numbers under their masks.
-fn lanes(
-    src: &[u16; VECTOR],
-    i: usize,
-    k: usize,
-    masks: &[u16; MASKS],
-    m: usize,
-    dst: &mut [u16; VECTOR],
-    o: usize,
-)
-    requires { (i + 8 ≤ 32768) × (k + 8 ≤ 32768) × (m + 40 ≤ 512) × (o + 8 ≤ 32768) }
-    ensures { Wrote o 8 (λ y. mix src.now masks.now (i + y) (k + y) m y) dst.old dst.new }
-{
-    for l in 0..8 {
-        let v = top(src[i + l] & masks[m + l], src[k + l] & masks[m + 32 + l]);
-        dst[o + l] = v;
+        let i = i + 8 * x;
+        let k = k + 8 * x;
+        eight(dst, o + 8 * x, |l| {
+            top(src[i + l] & masks[m + l], src[k + l] & masks[m + 32 + l])
+        });
     }
 }
 
