@@ -29,6 +29,17 @@ pub fn top(u: u16, v: u16) -> u16
     u.max(v)
 }
 
+// Writes eight lanes from a place on.
+fn eight<const N: usize, F: Fn(usize) -> u16>(dst: &mut [u16; N], o: usize, lane: F)
+    requires room { o + 8 ≤ N }
+    requires can { (l : ℕ) → l < 8 → F.pre lane l }
+    ensures { (f : ℕ → ℕ) → ((l v : ℕ) → l < 8 → F.post lane l v → v ≡ f l) → Wrote o 8 f dst.old dst.new }
+{
+    for l in 0..8 {
+        dst[o + l] = lane(l);
+    }
+}
+
 // ---- one column
 // Column j, from one vector to the other. Where there is no such column nothing is written.
 pub fn column(
@@ -125,26 +136,11 @@ fn part(
     ensures { Wrote o (8 * n) (λ y. mix src.now masks.now (i + y) (k + y) m (y % 8)) dst.old dst.new }
 {
     for x in 0..n {
-        lanes(src, i + 8 * x, k + 8 * x, masks, m, dst, o + 8 * x);
-    }
-}
-
-// Eight lanes: the greater of two numbers under their masks.
-fn lanes(
-    src: &[u16; VECTOR],
-    i: usize,
-    k: usize,
-    masks: &[u16; MASKS],
-    m: usize,
-    dst: &mut [u16; VECTOR],
-    o: usize,
-)
-    requires { (i + 8 ≤ 32768) × (k + 8 ≤ 32768) × (m + 40 ≤ 512) × (o + 8 ≤ 32768) }
-    ensures { Wrote o 8 (λ y. mix src.now masks.now (i + y) (k + y) m y) dst.old dst.new }
-{
-    for l in 0..8 {
-        let v = top(src[i + l] & masks[m + l], src[k + l] & masks[m + 32 + l]);
-        dst[o + l] = v;
+        let i = i + 8 * x;
+        let k = k + 8 * x;
+        eight(dst, o + 8 * x, |l| {
+            top(src[i + l] & masks[m + l], src[k + l] & masks[m + 32 + l])
+        });
     }
 }
 
@@ -183,7 +179,7 @@ fn column_masks_fit(w: usize, b: usize, j: usize) -> bool
     eight_from(w, b) && j <= w + 1
 }
 
-// Whether there are eight rows from b on.
+// Whether there are eight rows from b on, by a difference, since the sum can wrap.
 #[tactic(auto, unfolding(crate::specs::Calls::eight_from))]
 fn eight_from(w: usize, b: usize) -> bool
     ensures { result ≡ eight_from w b }
@@ -210,17 +206,6 @@ fn windows(w: usize, b: usize, j: usize) -> [usize; 8]
     ensures small { WindowPlaces result }
 {
     array::from_fn(|l| 8 * ((4 * (b + l) >> (w + 1 - j)) % 8))
-}
-
-// Eight lanes from a place on.
-fn eight<const N: usize, F: Fn(usize) -> u16>(dst: &mut [u16; N], o: usize, lane: F)
-    requires room { o + 8 ≤ N }
-    requires can { (l : ℕ) → l < 8 → F.pre lane l }
-    ensures { (f : ℕ → ℕ) → ((l v : ℕ) → l < 8 → F.post lane l v → v ≡ f l) → Wrote o 8 f dst.old dst.new }
-{
-    for l in 0..8 {
-        dst[o + l] = lane(l);
-    }
 }
 
 // The masks of the last two columns, of eight rows from b on: by the last two cells of row a and of row c. Where there are no such rows nothing is
