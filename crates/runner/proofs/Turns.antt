@@ -1,5 +1,6 @@
 -- A turn of the loop is one working call more at the end of a list of calls: what it answers and leaves, by the third demand.
 -- Assumes nothing.
+use Rattle.std.specs.Prelude as Std
 use Rattle.std.specs.Prelude.{Err, None, Ok, Option, Some}
 use mathlib.Core.Path.{◌≡◌, refl, sym, ◌∙◌, ap, ap₂, subst}
 use mathlib.Core.Bool.{Bool, true, false}
@@ -131,7 +132,7 @@ unfolding work_of
 refused_turn g n s e = rw e
 
 -- what is answered in the end is not "unfinished"
-solved_ends : (o : Result (Option ℕ) Refusal) → solved_says o ≡ unfinished → ⊥
+solved_ends : (o : Std.Result (Option ℕ) Refusal) → solved_says o ≡ unfinished → ⊥
 solved_ends (Ok (Some score)) e = let z : ◌≡◌ {A = ℕ} 0 1 = cc in omega arith
 solved_ends (Ok None) e = let z : ◌≡◌ {A = ℕ} 0 1 = cc in omega arith
 solved_ends (Err r) e = refuses_none e
@@ -282,5 +283,5 @@ module _ {j : Job} {g : List ℕ} (R : Ready j g) where
     pub turn_goes_on : 0 < n → r.answer ≡ unfinished → Goes j.kind j.rule j.width j.height g t₀ β₀ s r.state
     turn_goes_on some u = rw is (goes_on opens t₀ β₀ n s P some (rw is at u))
 
-    pub turn_ends : {o : Result (Option ℕ) Refusal} → r.answer ≡ solved_says o → Runs j g t₀ β₀ o r.state.table r.state.board
+    pub turn_ends : {o : Std.Result (Option ℕ) Refusal} → r.answer ≡ solved_says o → Runs j g t₀ β₀ o r.state.table r.state.board
     turn_ends {o} e = record { comes = rw (← e, is) (ends opens t₀ β₀ n s P (λ u. solved_ends o (sym e ∙ ap answer_of is ∙ u))) }

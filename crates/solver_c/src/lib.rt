@@ -55,7 +55,7 @@ fn run(
 {
     let mut job = start;
     let mut status = Ok(Status::Unfinished);
-    for _ in 0..calls {
+    for k in 0..calls {
         let worked = solver::work(job, givens, table, board, allowance);
         job = worked.job;
         status = worked.status;
