@@ -1,6 +1,7 @@
 -- The examples, by computing.
 -- Assumes nothing.
-use Rattle.std.specs.Prelude.{Ok}
+use Rattle.std.specs.Prelude.{Result, Ok}
+use Rattle.board.specs.declared.Refusal.{Refusal}
 use mathlib.Core.Path.{refl, ◌≡◌}
 use mathlib.Core.Logic.{inl}
 use mathlib.Core.List.{List}
@@ -30,7 +31,7 @@ use Rattle.turns.specs.Turn.{source, turned_list}
 use Rattle.turned_grids.specs.Calls.{FairCalls}
 use Rattle.turned_grids.specs.Examples.{opened, one_call, Examples}
 
-handed : {i j : Job} → Ok i ≡ Ok j → j ≡ i
+handed : {i j : Job} → ◌≡◌ {A = Result Job Refusal} (Ok i) (Ok j) → j ≡ i
 handed e = cc
 
 -- a call that lends what was opened is fair

@@ -17,6 +17,7 @@ use Rattle.runner.specs.Solving.{solved_says, memory_check, Solves}
 use Rattle.turns.specs.Turn.{Turn, turned_width, turned_height, turned_bytes}
 use Rattle.turned_grids.specs.Grids.{Turnable}
 use Rattle.board.specs.declared.Refusal.{Refusal}
+use Rattle.job.specs.declared.Job.{Job}
 
 -- jobs that seek among all still boards that keep the givens: mirror jobs aside, and those with a target, which have no givens
 pub record OfAllBoards (kind : Kind) : Type 0 where

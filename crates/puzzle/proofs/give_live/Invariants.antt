@@ -8,8 +8,5 @@ use Rattle.writer.proofs.Over.{over}
 use Rattle.puzzle.specs.Texts.{given_of}
 use Rattle.puzzle.proofs.give_live.Given as goal
 
-abbrev pub invariant-loop-i : goal.invariant-loop-i
-invariant-loop-i l = (l.i ≤ l.i-end) × (l.cells ≡ over (map given_of l.initial.cells) l.i l.initial.cells) × (length l.cells ≡ length l.initial.cells)
-
-abbrev pub decreases-loop-i : goal.decreases-loop-i
-decreases-loop-i l = l.i-end - l.i
+abbrev pub invariant-loop-cell : goal.invariant-loop-cell
+invariant-loop-cell l = (l.cells ≡ over (map given_of l.initial.cells) l.cell-index l.initial.cells) × (length l.cells ≡ length l.initial.cells)
