@@ -3,7 +3,7 @@
 use mathlib.Core.Path.{◌≡◌, refl, sym, ◌∙◌, ap, ap₂}
 use mathlib.Core.Bool.{Bool, true, false, cond, not, ◌&&◌}
 use Rattle.std.specs.Prelude.{Option, None, Some}
-use Prim.Native.Nat.{ℕ, zero, suc, ◌+◌, ◌*◌, ◌^◌, ◌≤◌, ◌<◌}
+use Prim.Native.Nat.{ℕ, suc, ◌+◌, ◌*◌, ◌^◌, ◌≤◌, ◌<◌}
 use native.Mathlib.Nat.{add-zero, mul-le-mul_left}
 use native.Mathlib.Numerals.{add-one}
 use native.Mathlib.Omega.{arith}
@@ -15,7 +15,7 @@ use Rattle.board.proofs.Widths.{width_of, width_fits_lem}
 use Rattle.board.proofs.Tests.{and_left, and_right}
 use Rattle.board.proofs.Search.{all_of, all_false}
 use Rattle.elimination.specs.Task.{Task, row, is_fill}
-use Rattle.elimination.specs.Shape.{Shape, Numbers, after_entry, after_entries, after_row, after_none}
+use Rattle.elimination.specs.Shape.{Numbers, after_entry, after_entries, after_row, after_none}
 use Rattle.elimination.specs.Rounds.{round_fill}
 use Rattle.elimination.proofs.Shape.{Units, runs, ends, fails}
 use Rattle.job_kind.specs.Kinds.{halves_of, kind_digits, board_length, shape_of, layer_start}
@@ -165,15 +165,6 @@ module _ (j : Job) where
   -- the rows of a round are at most the units done
   pub rows_early : {x : Round} → RoundIs j.kind j.width j.height j.units x → x.left ≡ 0 → x.rows < j.height → x.rows ≤ j.units
   rows_early R f l = let F = chooses_row R f l in row_early j.kind j.width j.height F.0 F.1
-
--- where no row can be chosen the job ends at row 1, and stands at a later row
-pub ends_first : (S : Shape) (r : ℕ) (j : Job) → r ≡ 0 → job_with j (after_none (numbers_in (numbers_of j))) ≡ after_choice S r j None
-ends_first S zero j e = refl
-ends_first S (suc r) j e = absurd (omega arith)
-
-pub stands_later : (S : Shape) (r : ℕ) (j : Job) → (r ≡ 0 → ⊥) → j ≡ after_choice S r j None
-stands_later S zero j n = absurd (n refl)
-stands_later S (suc r) j n = refl
 
 -- ---- a job that fits
 module _ (j : Job) (f : job_fits j ≡ true) where

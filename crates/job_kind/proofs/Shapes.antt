@@ -101,9 +101,6 @@ module _ (w h : ℕ) where
 
 -- ---- the entries of a round
 module _ (kind : Kind) (w h r : ℕ) where
-  pub work_again : refills kind ≡ true → (h - r) * 4 ^ kind_digits kind w ≡ round_work kind w h r
-  work_again t = rw t
-
   pub work_first : refills kind ≡ false → r ≡ 0 → h * 4 ^ kind_digits kind w ≡ round_work kind w h r
   work_first t e = rw (t, e)
 
