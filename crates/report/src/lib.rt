@@ -1,7 +1,7 @@
 // Lines on standard output, for the programs.
 #![tactic(auto)]
 
-use board::{Check, Refusal};
+use board::Refusal;
 
 pub fn text(s: &[u8]) {
     io::write_all(1, s);
@@ -19,11 +19,11 @@ pub fn line(name: &[u8], n: usize) {
 }
 
 // A line: a name, and what a check came to.
-pub fn check(name: &[u8], c: Check) {
+pub fn check(name: &[u8], c: Result<(), Refusal>) {
     text(name);
     match c {
-        Check::Passed => text(b": passed\n"),
-        Check::Refused(r) => refusal(r),
+        Ok(()) => text(b": passed\n"),
+        Err(r) => refusal(r),
     }
 }
 
