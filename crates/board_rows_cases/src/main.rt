@@ -6,6 +6,8 @@ ghost use Rattle.std.specs.Prelude.{◌≤◌};
 
 mod plain;
 
+use plain::Row;
+
 fn main() {
     every_number(
         b"numbers, a cell for each binary digit, in five rows each: ",
@@ -71,8 +73,14 @@ fn every_number(name: &[u8], cells: usize)
 }
 
 // Writes the row of all live cells into a board of 9s.
-fn bytes_changed(name: &[u8], bits: usize, w: usize, r: usize) {
-    let mut board = [9u8; 6];
-    board_rows::write_row(bits, w, r, usize::MAX, &mut board);
-    report::line(name, plain::other_than_9(&board));
+fn bytes_changed(name: &[u8], bits: usize, cells: usize, above: usize) {
+    let row = Row {
+        bits,
+        cells,
+        above,
+        number: usize::MAX,
+    };
+    let mut board = [9; 6];
+    row.write(&mut board);
+    report::line(name, board.iter().filter(|byte| **byte != 9).count());
 }

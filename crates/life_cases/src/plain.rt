@@ -4,11 +4,12 @@ ghost use Rattle.std.specs.Prelude.{◌≤◌};
 use life::Change;
 use rule::Rule;
 
-// A rule: for each count of live neighbours, 0 to 9, 1 where it is a birth count and where it is a survival count.
+// A rule: of each count of live neighbours, 0 to 9, whether it is a birth count and whether it is a survival count. Two lists, as the library's rule
+// has two numbers.
 #[derive(Clone, Copy)]
 pub struct Counts {
-    births: [u8; 10],
-    survivals: [u8; 10],
+    births: [bool; 10],
+    survivals: [bool; 10],
 }
 
 impl Counts {
@@ -22,14 +23,14 @@ impl Counts {
 
     // Whether the rule is not barred.
     pub fn is_allowed(&self) -> bool {
-        self.births[0] == 0 && self.births[9] == 0 && self.survivals[9] == 0
+        !self.births[0] && !self.births[9] && !self.survivals[9]
     }
 
     // The rule without what would bar it.
     pub fn allowed(mut self) -> Counts {
-        self.births[0] = 0;
-        self.births[9] = 0;
-        self.survivals[9] = 0;
+        self.births[0] = false;
+        self.births[9] = false;
+        self.survivals[9] = false;
         self
     }
 
@@ -38,12 +39,12 @@ impl Counts {
         table
             .iter()
             .enumerate()
-            .filter(|(p, state)| **state != self.next_of(*p))
+            .filter(|(p, state)| **state != u8::from(self.next_of(*p)))
             .count()
     }
 
     // The next state of a pattern's centre.
-    fn next_of(&self, p: usize) -> u8 {
+    fn next_of(&self, p: usize) -> bool {
         let grid = Grid {
             counts: self,
             width: 3,
@@ -51,18 +52,6 @@ impl Counts {
             cells: &digits::<9>(p),
         };
         grid.next(2, 2)
-    }
-
-    // A cell's next state, by its state and its number of live neighbours.
-    fn state(&self, centre: u8, live: usize) -> u8 {
-        if 8 < live {
-            return 9;
-        }
-        if centre == 0 {
-            self.births[live]
-        } else {
-            self.survivals[live]
-        }
     }
 }
 
@@ -76,18 +65,18 @@ impl From<Counts> for Rule {
     }
 }
 
-fn marked(counts: &[usize]) -> [u8; 10] {
-    let mut marks = [0; 10];
+fn marked(counts: &[usize]) -> [bool; 10] {
+    let mut marks = [false; 10];
     for n in counts {
         if let Some(mark) = marks.get_mut(*n) {
-            *mark = 1;
+            *mark = true;
         }
     }
     marks
 }
 
 // Count n adds 2^n.
-fn number_of(counts: &[u8; 10]) -> usize {
+fn number_of(counts: &[bool; 10]) -> usize {
     let mut sum = 0usize;
     for count in counts.iter().rev() {
         sum = sum.wrapping_add(sum).wrapping_add(usize::from(*count));
@@ -106,25 +95,31 @@ impl Random {
         Random { state: 1 }
     }
 
-    fn bit(&mut self) -> u8 {
+    fn bit(&mut self) -> bool {
         let x = self.state % 2147483648 * 1103515245 % 2147483648 + 12345;
         self.state = x;
-        (x / 65536 % 2) as u8
+        x / 65536 % 2 == 1
     }
 
     pub fn fill(&mut self, cells: &mut [u8]) {
         for cell in cells.iter_mut() {
-            *cell = self.bit();
+            *cell = u8::from(self.bit());
         }
     }
 
     // A rule, barred ones among them.
     pub fn counts(&mut self) -> Counts {
-        let mut births = [0; 10];
-        let mut survivals = [0; 10];
-        self.fill(&mut births);
-        self.fill(&mut survivals);
+        let births = self.marks();
+        let survivals = self.marks();
         Counts { births, survivals }
+    }
+
+    fn marks(&mut self) -> [bool; 10] {
+        let mut marks = [false; 10];
+        for mark in marks.iter_mut() {
+            *mark = self.bit();
+        }
+        marks
     }
 }
 
@@ -139,37 +134,35 @@ pub struct Grid<'a> {
 }
 
 impl Grid<'_> {
-    // A cell; rows i and columns j are one more than the ring's, so that none before the ring is negative.
-    fn cell(&self, i: usize, j: usize) -> u8 {
+    // Whether a cell is live; rows i and columns j are one more than the ring's, so that none before the ring is negative.
+    fn is_live(&self, i: usize, j: usize) -> bool {
         if i < 2 || self.height + 1 < i || j < 2 || self.width + 1 < j {
-            return 0;
+            return false;
         }
-        self.cells
-            .get((i - 2) * self.width + (j - 2))
-            .copied()
-            .unwrap_or(0)
+        self.cells.get((i - 2) * self.width + (j - 2)).copied() == Some(1)
     }
 
     // The live cells among three neighbouring ones of a row.
-    fn three(&self, i: usize, j: usize) -> u8
+    fn three(&self, i: usize, j: usize) -> usize
         requires { j ≤ 100 }
+        ensures { result ≤ 3 }
     {
-        self.cell(i, j)
-            .wrapping_add(self.cell(i, j + 1))
-            .wrapping_add(self.cell(i, j + 2))
+        usize::from(self.is_live(i, j))
+            + usize::from(self.is_live(i, j + 1))
+            + usize::from(self.is_live(i, j + 2))
     }
 
-    // The next state in row r and column c, ring counted.
-    fn next(&self, r: usize, c: usize) -> u8
+    // Whether the cell in row r and column c, ring counted, is live next.
+    fn next(&self, r: usize, c: usize) -> bool
         requires { (r ≤ 100) × (c ≤ 100) }
     {
-        let centre = self.cell(r + 1, c + 1);
-        let all = self
-            .three(r, c)
-            .wrapping_add(self.three(r + 1, c))
-            .wrapping_add(self.three(r + 2, c));
-        self.counts
-            .state(centre, usize::from(all.wrapping_sub(centre)))
+        let beside = usize::from(self.is_live(r + 1, c)) + usize::from(self.is_live(r + 1, c + 2));
+        let live = self.three(r, c) + beside + self.three(r + 2, c);
+        if self.is_live(r + 1, c + 1) {
+            self.counts.survivals[live]
+        } else {
+            self.counts.births[live]
+        }
     }
 
     // How many bytes of a stepped board are not the next state.
@@ -177,7 +170,7 @@ impl Grid<'_> {
         let mut wrong = 0usize;
         for r in 0..self.height + 2 {
             for c in 0..self.width + 2 {
-                if ring.get(r * (self.width + 2) + c).copied() != Some(self.next(r, c)) {
+                if ring.get(r * (self.width + 2) + c).copied() != Some(u8::from(self.next(r, c))) {
                     wrong = wrong.wrapping_add(1);
                 }
             }
@@ -189,7 +182,7 @@ impl Grid<'_> {
     pub fn first_change(&self) -> Option<Change> {
         for row in 0..self.height + 2 {
             for column in 0..self.width + 2 {
-                if self.next(row, column) != self.cell(row + 1, column + 1) {
+                if self.next(row, column) != self.is_live(row + 1, column + 1) {
                     return Some(Change { row, column });
                 }
             }
