@@ -11,7 +11,7 @@ use lib.ListN.{length}
 use Rattle.board.proofs.Tests.{among_yes}
 use Rattle.life.specs.Rows.{row_of, digit_at}
 use Rattle.elimination.specs.Rows.{OnlyRow, RowWriter}
-use Rattle.elimination.proofs.Numbers.{lt_or_ge}
+use Rattle.std.proofs.lemmas.Bool.{cases_lt}
 use Rattle.board_rows.specs.Rows.{row_cell, put_row, read_row}
 use Rattle.board_rows.specs.Calls.{row_writes}
 use Rattle.board_rows.specs.Theorems.{OnlyThatRow, CellsWritten, RowReadsBack, ReadsAsRow, RowReflects}
@@ -52,7 +52,7 @@ row_reflects bits n k l =
     (λ (q : bits ≤ k).
     let e : bits - (j + 1) ≡ k - bits = omega arith in
     cell_left bits n j (omega arith) ∙ ap (digit_at n) e ∙ sym (cell_right bits n k q))
-    (lt_or_ge k bits)
+    (cases_lt k bits)
 
 -- ---- so rows stand in a board, each in its own bytes
 pub row_writer : (bits w : ℕ) → bits ≤ w → RowWriter w (2 ^ bits) (put_row bits w) (read_row bits w)

@@ -18,7 +18,7 @@ use borrow.Rule.Slice.PartMut.{put_mid}
 use Rattle.std.proofs.lemmas.List.{set-append_right}
 use Rattle.board.specs.Lists.{listed}
 use Rattle.board.proofs.Lists.{listed_more}
-use Rattle.elimination.proofs.Numbers.{lt_or_ge}
+use Rattle.std.proofs.lemmas.Bool.{cases_lt}
 use Rattle.life.specs.Rows.{row_number, digit_at}
 use Rattle.board_rows.specs.Rows.{row_cell, written, put_row, read_row}
 use Rattle.board_rows.specs.Calls.{row_writes}
@@ -129,7 +129,7 @@ no_room {n} {w} {r} some l = let p : 0 < w = omega (arith, some) in (div-lt_iff_
 pub has_room : {n w r : ℕ} → (w ≡ 0 → ⊥) → r < n / w → suc r * w ≤ n
 has_room {n} {w} {r} some l =
     ⊎_elim (λ (q : n < suc r * w). let p : 0 < w = omega (arith, some) in absurd (omega (arith, (div-lt_iff_lt-mul p).1 q))) (λ (q : suc r * w ≤ n). q)
-    (lt_or_ge n (suc r * w))
+    (cases_lt n (suc r * w))
 
 -- a row of no cells is written with nothing, and one that doesn't lie within the board isn't written
 module _ (bits r n : ℕ) (board : List ℕ) where

@@ -2,18 +2,20 @@
 // board and past it, against cells that are found by halving. Prints what was tried.
 #![tactic(auto)]
 
-use std::num;
+ghost use Rattle.std.specs.Prelude.{◌≤◌};
 
 mod plain;
+
+use plain::Row;
 
 fn main() {
     every_number(
         b"numbers, a cell for each binary digit, in five rows each: ",
-        false,
+        1,
     );
     every_number(
         b"numbers, two cells for each binary digit, in five rows each: ",
-        true,
+        2,
     );
     bytes_changed(
         b"row 1 of 3 cells in a board of 6, bytes changed: ",
@@ -39,12 +41,7 @@ fn main() {
         4,
         1,
     );
-    bytes_changed(
-        b"row 2^64 of 3 cells, bytes changed: ",
-        3,
-        3,
-        18446744073709551615,
-    );
+    bytes_changed(b"row 2^64 of 3 cells, bytes changed: ", 3, 3, usize::MAX);
     bytes_changed(
         b"row 2 of 2^63 cells, bytes changed: ",
         3,
@@ -60,23 +57,30 @@ fn main() {
     );
 }
 
-// Every number of up to ten binary digits, as a row of as many cells or of twice as many.
-fn every_number(name: &[u8], twice: bool) {
-    let mut tried = 0;
-    let mut wrong = 0;
+// Every number of up to ten binary digits, as a row of so many cells for each digit.
+fn every_number(name: &[u8], cells: usize)
+    requires { cells ≤ 2 }
+{
+    let mut tried = 0usize;
+    let mut wrong = 0usize;
     for bits in 1..11 {
         let numbers = 1 << bits;
-        let w = if twice { 2 * bits } else { bits };
-        tried = num::wrapping_add_usize(tried, numbers);
-        wrong = num::wrapping_add_usize(wrong, plain::wrong_numbers(bits, w, numbers));
+        tried = tried.wrapping_add(numbers);
+        wrong = wrong.wrapping_add(plain::wrong_numbers(bits, cells * bits, numbers));
     }
     report::line(name, tried);
     report::line(b"  bytes other than they should be: ", wrong);
 }
 
 // Writes the row of all live cells into a board of 9s.
-fn bytes_changed(name: &[u8], bits: usize, w: usize, r: usize) {
-    let mut board = [9u8; 6];
-    board_rows::write_row(bits, w, r, 18446744073709551615, &mut board);
-    report::line(name, plain::other_than_9(&board));
+fn bytes_changed(name: &[u8], bits: usize, cells: usize, above: usize) {
+    let row = Row {
+        bits,
+        cells,
+        above,
+        number: usize::MAX,
+    };
+    let mut board = [9; 6];
+    row.write(&mut board);
+    report::line(name, board.iter().filter(|byte| **byte != 9).count());
 }

@@ -1,56 +1,63 @@
 // Rows by halving a number, written apart from the library.
-use std::num;
+
+// A row to write: how many binary digits its number has, its cells, how many rows are above it, and its number.
+#[derive(Clone, Copy)]
+pub struct Row {
+    pub bits: usize,
+    pub cells: usize,
+    pub above: usize,
+    pub number: usize,
+}
+
+impl Row {
+    pub fn write(&self, board: &mut [u8]) {
+        board_rows::write_row(self.bits, self.cells, self.above, self.number, board);
+    }
+
+    // The bytes that are other than they should be, once the row is written into a board of 9s.
+    fn wrong_bytes(&self) -> usize {
+        let mut board = [9; 64];
+        self.write(&mut board);
+        board
+            .iter()
+            .enumerate()
+            .filter(|(p, byte)| **byte != self.expected(*p))
+            .count()
+    }
+
+    // What place p holds then.
+    fn expected(&self, p: usize) -> u8 {
+        let w = self.cells;
+        if w == 0 || p / w != self.above {
+            return 9;
+        }
+        if p / w == 64 / w {
+            return 9; // the row isn't whole
+        }
+        let k = p % w;
+        let j = if k < self.bits { k } else { w - 1 - k }; // reflected
+        if self.bits <= j {
+            return 9; // no row here is so wide
+        }
+        (halved(self.number, self.bits - 1 - j) % 2) as u8
+    }
+}
 
 // The bytes that are other than they should be, over all numbers below n and five rows.
-pub fn wrong_numbers(bits: usize, w: usize, n: usize) -> usize {
-    let mut wrong = 0;
+pub fn wrong_numbers(bits: usize, cells: usize, n: usize) -> usize {
+    let mut wrong = 0usize;
     for number in 0..n {
-        wrong = num::wrapping_add_usize(wrong, wrong_rows(bits, w, number));
-    }
-    wrong
-}
-
-fn wrong_rows(bits: usize, w: usize, number: usize) -> usize {
-    let mut wrong = 0;
-    for r in 0..5 {
-        let mut board = [9u8; 64];
-        board_rows::write_row(bits, w, r, number, &mut board);
-        wrong = num::wrapping_add_usize(wrong, wrong_bytes(bits, w, r, number, board));
-    }
-    wrong
-}
-
-fn wrong_bytes(bits: usize, w: usize, r: usize, number: usize, board: [u8; 64]) -> usize {
-    let mut wrong = 0;
-    for p in 0..64 {
-        if board[p] != expected(bits, w, r, number, p) {
-            wrong = num::wrapping_add_usize(wrong, 1);
+        for above in 0..5 {
+            let row = Row {
+                bits,
+                cells,
+                above,
+                number,
+            };
+            wrong = wrong.wrapping_add(row.wrong_bytes());
         }
     }
     wrong
-}
-
-// What place p holds in a board of 64 bytes that held 9s, once row r is written.
-fn expected(bits: usize, w: usize, r: usize, number: usize, p: usize) -> u8 {
-    if w == 0 {
-        return 9;
-    }
-    if p / w != r {
-        return 9;
-    }
-    if p / w == 64 / w {
-        return 9; // the row isn't whole
-    }
-    let k = p % w;
-    let j = if k < bits {
-        k
-    } else {
-        num::wrapping_sub_usize(w, num::wrapping_add_usize(k, 1)) // reflected
-    };
-    if bits <= j {
-        return 9; // no row here is so wide
-    }
-    (halved(number, bits - 1 - j) % 2) as u8
 }
 
 fn halved(number: usize, times: usize) -> usize {
@@ -59,15 +66,4 @@ fn halved(number: usize, times: usize) -> usize {
         x = x / 2;
     }
     x
-}
-
-// The bytes of a slice that are no 9.
-pub fn other_than_9(s: &[u8]) -> usize {
-    let mut n = 0;
-    for k in 0..s.len() {
-        if s[k] != 9 {
-            n = num::wrapping_add_usize(n, 1);
-        }
-    }
-    n
 }

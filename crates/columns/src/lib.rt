@@ -2,7 +2,7 @@
 // next. 0 stands for no number, and the greater wins.
 #![tactic(auto)]
 
-ghost use Rattle.std.specs.Prelude.{◌≡◌, ℕ, ◌+◌, ◌*◌, ◌-◌, ◌<◌, ◌≤◌, ◌^◌, ◌/◌, ◌%◌, get_or};
+ghost use Rattle.std.specs.Prelude.{◌≡◌, false, ℕ, MatchOption, ◌+◌, ◌*◌, ◌-◌, ◌<◌, ◌≤◌, ◌^◌, ◌/◌, ◌%◌, get_or};
 ghost use Rattle.std.specs.Int.Bits.{bit_and};
 ghost use Rattle.board.specs.Boards.{max_width};
 ghost use Rattle.rule.specs.Rule.{entry_of};
@@ -41,7 +41,10 @@ fn eight<const N: usize, F: Fn(usize) -> u16>(dst: &mut [u16; N], o: usize, lane
 }
 
 // ---- one column
+// Source, masks and destination go on as parameters: only src and masks could be one value, as dst is written, and each call would still name its places.
+
 // Column j, from one vector to the other. Where there is no such column nothing is written.
+#[tactic(auto, unfolding(crate::specs::Calls::column_fits))]
 pub fn column(
     src: &[u16; VECTOR],
     masks: &[u16; MASKS],
@@ -51,10 +54,9 @@ pub fn column(
 )
     ensures { Leaves (column_fits w j) (32 * 2 ^ w) (crossed src.now masks.now (2 ^ (w + 2 - j))) dst.old dst.new }
 {
-    if !column_fits(w, j) {
-        return;
+    if column_fits(w, j) {
+        halves(src, masks, w, j, dst);
     }
-    halves(src, masks, w, j, dst);
 }
 
 // Whether j is one of the columns 0 to w - 1.
@@ -162,73 +164,79 @@ fn mask(t: bool) -> u16
 }
 
 // The masks of column j, of eight rows from b on. Where there are no such rows or no such column nothing is written.
+#[tactic(auto, unfolding(crate::specs::Calls::eight_from, crate::specs::Calls::column_masks_fit))]
 pub fn column_masks(keep: &[u16; 512], w: usize, b: usize, j: usize, masks: &mut [u16; MASKS])
     ensures { Leaves (column_masks_fit w b j) 512 (column_mask keep.now w b j) masks.old masks.new }
 {
-    if !column_masks_fit(w, b, j) {
-        return;
+    match EightRows::new(w, b) {
+        Some(rows) if j <= w + 1 => rows.masks(keep, j, masks),
+        _ => {}
     }
-    masks_of(keep, w, b, j, masks);
-}
-
-// Whether there are eight rows from b on, and a column j of 0 to w + 1.
-#[tactic(auto, unfolding(crate::specs::Calls::eight_from, crate::specs::Calls::column_masks_fit))]
-fn column_masks_fit(w: usize, b: usize, j: usize) -> bool
-    ensures { result ≡ column_masks_fit w b j }
-{
-    eight_from(w, b) && j <= w + 1
-}
-
-// Whether there are eight rows from b on, by a difference, since the sum can wrap.
-#[tactic(auto, unfolding(crate::specs::Calls::eight_from))]
-fn eight_from(w: usize, b: usize) -> bool
-    ensures { result ≡ eight_from w b }
-{
-    w <= MAX_WIDTH && 8 <= two_to(w) && b <= two_to(w) - 8
-}
-
-// By three cells of row a and three of row c, in eight lanes.
-fn masks_of(keep: &[u16; 512], w: usize, b: usize, j: usize, masks: &mut [u16; MASKS])
-    requires { (w ≤ max_width) × (b + 8 ≤ 2 ^ w) × (j ≤ w + 1) }
-    ensures { Wrote 0 512 (column_mask keep.now w b j) masks.old masks.new }
-{
-    let at = windows(w, b, j);
-    for t in 0..64 {
-        let p = 64 * (t / 8) + t % 8;
-        eight(masks, 8 * t, |l| keep[p + at[l]]);
-    }
-}
-
-// The places of eight rows' patterns among those with the same cells above and below.
-fn windows(w: usize, b: usize, j: usize) -> [usize; 8]
-    requires { (w ≤ max_width) × (b + 8 ≤ 2 ^ w) × (j ≤ w + 1) }
-    ensures places { (l : ℕ) → l < 8 → get_or result l 0 ≡ 8 * window w (b + l) j }
-    ensures small { WindowPlaces result }
-{
-    array::from_fn(|l| 8 * ((4 * (b + l) >> (w + 1 - j)) % 8))
 }
 
 // The masks of the last two columns, of eight rows from b on: by the last two cells of row a and of row c. Where there are no such rows nothing is
 // written.
+#[tactic(auto, unfolding(crate::specs::Calls::eight_from))]
 pub fn last_masks(keep: &[u16; 512], w: usize, b: usize, masks: &mut [u16; LAST_MASKS])
     ensures { Leaves (eight_from w b) 128 (last_mask keep.now w b) masks.old masks.new }
 {
-    if !eight_from(w, b) {
-        return;
+    if let Some(rows) = EightRows::new(w, b) {
+        rows.last_masks(keep, masks);
     }
-    last_of(keep, w, b, masks);
 }
 
-// By two cells each, in eight lanes.
-fn last_of(keep: &[u16; 512], w: usize, b: usize, masks: &mut [u16; LAST_MASKS])
-    requires { (w ≤ max_width) × (b + 8 ≤ 2 ^ w) }
-    ensures { Wrote 0 128 (last_mask keep.now w b) masks.old masks.new }
-{
-    let at = windows(w, b, w);
-    let past = windows(w, b, w + 1);
-    for t in 0..16 {
-        let p = 128 * (t / 4) + 2 * (t % 4);
-        let q = 256 * (t / 4 % 2) + 4 * (t % 2);
-        eight(masks, 8 * t, |l| keep[p + at[l]] & keep[q + past[l]]);
+// Eight rows of a width, from one on.
+#[derive(Clone, Copy)]
+struct EightRows {
+    width: usize,
+    first: usize,
+    ghost are_rows: { (width ≤ max_width) × (first + 8 ≤ 2 ^ width) },
+}
+
+impl EightRows {
+    // Where there are such rows; by a difference, since the sum can wrap.
+    #[tactic(auto, unfolding(crate::specs::Calls::eight_from))]
+    fn new(width: usize, first: usize) -> Option<EightRows>
+        ensures { MatchOption result (eight_from width first ≡ false) (λ rows. (rows.width ≡ width) × (rows.first ≡ first)) }
+    {
+        if width <= MAX_WIDTH && 8 <= two_to(width) && first <= two_to(width) - 8 {
+            Some(EightRows { width, first })
+        } else {
+            None
+        }
+    }
+
+    // Of column j, by three cells of row a and three of row c, in eight lanes.
+    fn masks(self, keep: &[u16; 512], j: usize, masks: &mut [u16; MASKS])
+        requires { j ≤ self.width + 1 }
+        ensures { Wrote 0 512 (column_mask keep.now self.width self.first j) masks.old masks.new }
+    {
+        let at = self.windows(j);
+        for t in 0..64 {
+            let p = 64 * (t / 8) + t % 8;
+            eight(masks, 8 * t, |l| keep[p + at[l]]);
+        }
+    }
+
+    // Of the last two columns, by two cells each, in eight lanes.
+    fn last_masks(self, keep: &[u16; 512], masks: &mut [u16; LAST_MASKS])
+        ensures { Wrote 0 128 (last_mask keep.now self.width self.first) masks.old masks.new }
+    {
+        let at = self.windows(self.width);
+        let past = self.windows(self.width + 1);
+        for t in 0..16 {
+            let p = 128 * (t / 4) + 2 * (t % 4);
+            let q = 256 * (t / 4 % 2) + 4 * (t % 2);
+            eight(masks, 8 * t, |l| keep[p + at[l]] & keep[q + past[l]]);
+        }
+    }
+
+    // The places of the rows' patterns among those with the same cells above and below.
+    fn windows(self, j: usize) -> [usize; 8]
+        requires { j ≤ self.width + 1 }
+        ensures places { (l : ℕ) → l < 8 → get_or result l 0 ≡ 8 * window self.width (self.first + l) j }
+        ensures small { WindowPlaces result }
+    {
+        array::from_fn(|l| 8 * ((4 * (self.first + l) >> (self.width + 1 - j)) % 8))
     }
 }

@@ -14,7 +14,7 @@ use Rattle.elimination.specs.Task.{Task, fill, row, is_fill}
 use Rattle.elimination.specs.Plan.{Scheduled}
 use Rattle.elimination.specs.Places.{writes, Stands, Orderly}
 use Rattle.elimination.specs.FillThenChoose.{fill_at, place, choose_at, plan, start_of, fills_before, schedule, Lengths, fill_then_choose, FillThenChooseCompletes}
-use Rattle.elimination.proofs.Numbers.{lt_or_ge}
+use Rattle.std.proofs.lemmas.Bool.{cases_lt}
 use Rattle.elimination.proofs.Task.{row_not_fill}
 use Rattle.elimination.proofs.Places.{orderly_sound}
 use Rattle.elimination.proofs.Completion.{job_completes}
@@ -78,7 +78,7 @@ module _ (h q : ℕ) where
       ⊎_elim
       (λ (l : v < h * q).
       subst (λ (o : Task). writes o p ≡ false) (sym (plan_fill h q v l)) (ne_eqb p ((h - 1 - v / q) * q + v % q) (λ e. n l (e ∙ sym (place_digits h q v)))))
-      (λ (l : h * q ≤ v). subst (λ (o : Task). writes o p ≡ false) (sym (plan_late v l)) refl) (lt_or_ge v (h * q))
+      (λ (l : h * q ≤ v). subst (λ (o : Task). writes o p ≡ false) (sym (plan_late v l)) refl) (cases_lt v (h * q))
 
   -- an entry that is filled stands
   pub stands : (u m : ℕ) → u < h * q → u < m → Stands (plan h q) m (place h q u) (u / q) (u % q)
@@ -111,7 +111,7 @@ module _ (h q : ℕ) where
         let t : (h - 1 - u / q) * q ≡ target = cc in
         let i : u % q ≡ j = cc in
         omega (arith, place_lt h q u l, place_digits h q u))
-        (λ (l : h * q ≤ u). row_not_fill (sym (plan_late u l) ∙ e)) (lt_or_ge u (h * q))
+        (λ (l : h * q ≤ u). row_not_fill (sym (plan_late u l) ∙ e)) (cases_lt u (h * q))
 
     reads : (u k source target j : ℕ) → plan h q u ≡ fill (suc k) source target j → (i : ℕ) → i < q → Stands (plan h q) u (source + i) k i
     reads u k source target j e i li =
@@ -124,7 +124,7 @@ module _ (h q : ℕ) where
         let parts = div-add-mod' u q in
         let under : u / q < h = (div-lt_iff_lt-mul some).1 l in
         stands_at k i u (source + i) li (omega arith) (omega arith) (ap (λ (x : ℕ). x + i) (sym ss) ∙ ap (λ (x : ℕ). (h - x) * q + i) sk))
-        (λ (l : h * q ≤ u). row_not_fill (sym (plan_late u l) ∙ e)) (lt_or_ge u (h * q))
+        (λ (l : h * q ≤ u). row_not_fill (sym (plan_late u l) ∙ e)) (cases_lt u (h * q))
 
     picks : (u r source : ℕ) → u < h * q + h → plan h q u ≡ row r source → (i : ℕ) → i < q → Stands (plan h q) u (source + i) (h - suc r) i
     picks u r source b e i li =
@@ -137,7 +137,7 @@ module _ (h q : ℕ) where
         let d : h - suc (h - suc r) ≡ u - h * q = omega arith in
         let room : suc (h - suc r) * q ≤ h * q = mul-le-mul_right q k in
         stands_at (h - suc r) i u (source + i) li k (omega arith) (ap (λ (x : ℕ). x + i) (sym ss) ∙ ap (λ (x : ℕ). x * q + i) (sym d)))
-        (lt_or_ge u (h * q))
+        (cases_lt u (h * q))
 
   -- ---- the schedule
   next : (r : ℕ) → start_of h q (suc r) ≡ suc (start_of h q r + fills_before h q r)

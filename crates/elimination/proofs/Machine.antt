@@ -9,7 +9,7 @@ use native.Mathlib.Omega.{arith}
 use borrow.Author.Tests.{le-leb, lt-leb}
 use lib.Dec.{leb}
 use Rattle.elimination.specs.Machine.{Machine, advance, AdvanceAdd, Lasts, ComesTo, LastsAfter}
-use Rattle.elimination.proofs.Numbers.{lt_or_ge}
+use Rattle.std.proofs.lemmas.Bool.{cases_lt}
 
 module _ {S : Type 0} (M : Machine S) where
   -- ---- units
@@ -49,12 +49,12 @@ module _ {S : Type 0} (M : Machine S) where
       done : M.done (advance M m s) ≡ min m long
       done =
           ⊎_elim (λ (l : m < long). L.counted m (omega arith) ∙ omega arith)
-          (λ (l : long ≤ m). ap M.done (stays l) ∙ L.counted long (omega arith) ∙ omega arith) (lt_or_ge m long)
+          (λ (l : long ≤ m). ap M.done (stays l) ∙ L.counted long (omega arith) ∙ omega arith) (cases_lt m long)
 
       ended : M.ended (advance M m s) ≡ leb long m
       ended =
           ⊎_elim (λ (l : m < long). L.running m l ∙ sym (lt-leb long m l)) (λ (l : long ≤ m). ap M.ended (stays l) ∙ L.over ∙ sym (le-leb long m l))
-          (lt_or_ge m long)
+          (cases_lt m long)
 
       moves : m < long → M.done (M.unit (advance M m s)) ≡ suc (M.done (advance M m s))
       moves l = ap M.done (sym (advance_suc m s)) ∙ L.counted (suc m) l ∙ ap suc (sym (L.counted m (omega arith)))

@@ -15,7 +15,7 @@ use Rattle.elimination.specs.FillThenChoose as Whole
 use Rattle.elimination.specs.TwoLayers as Two
 use Rattle.elimination.specs.Shape.{Shape, ShapeLaws, whole, two_layers}
 use Rattle.elimination.specs.Rounds.{InRound, round_fill, Rounds}
-use Rattle.elimination.proofs.Numbers.{lt_or_ge}
+use Rattle.std.proofs.lemmas.Bool.{cases_lt}
 use Rattle.elimination.proofs.Task.{row_not_fill}
 use Rattle.elimination.proofs.Places.{row_before_lem}
 use Rattle.elimination.proofs.FillThenChoose as Wholes
@@ -75,7 +75,7 @@ module _ {q : ℕ} {S : Shape} {C : Schedule} (R : Rounds q S C) where
         before = l;
         at = record { rows = omega arith; is = omega arith; within = λ z. omega (arith, R.scheduled.next r) };
       })
-      (lt_or_ge u (C.start r))
+      (cases_lt u (C.start r))
 
   pub located : {u : ℕ} → u < S.board_length → Located u
   located {u} l = locate S.rows (omega arith) u (omega (arith, R.board))

@@ -13,7 +13,7 @@ use Rattle.elimination.specs.Task.{Task, fill, row, is_fill}
 use Rattle.elimination.specs.FillThenChoose as Whole
 use Rattle.elimination.specs.TwoLayers as Two
 use Rattle.elimination.specs.Shape.{Shape, Numbers, units_fit, rows_chosen, rows_fit, numbers_fit, entries_filled, after_entry, after_none, ShapeLaws, NumbersGoOn, whole, chosen_from, two_layers, ShapesLawful}
-use Rattle.elimination.proofs.Numbers.{lt_or_ge}
+use Rattle.std.proofs.lemmas.Bool.{cases_lt}
 use Rattle.elimination.proofs.Task.{row_not_fill}
 use Rattle.elimination.proofs.FillThenChoose.{plan_fill, plan_late}
 use Rattle.elimination.proofs.Places.{row_before_lem}
@@ -176,7 +176,7 @@ module _ (S : Shape) (L : ShapeLaws S) where
       go (fill k source target j) p i = rw (L.fills m k source target j (omega arith) p).0 i
       go (row r source) p i =
           ⊎_elim (λ (a : suc r < S.rows). rw (L.chooses m r source (omega arith) p).1 a)
-          (λ (a : S.rows ≤ suc r). absurd (omega (arith, L.ends m r source (omega arith) p a))) (lt_or_ge (suc r) S.rows)
+          (λ (a : S.rows ≤ suc r). absurd (omega (arith, L.ends m r source (omega arith) p a))) (cases_lt (suc r) S.rows)
 
   -- the units are the entries filled and the rows chosen
   pub units_split : (m : ℕ) → m ≤ S.board_length → m ≡ entries_filled S.plan m + S.chosen m
@@ -206,7 +206,7 @@ module _ (codes h most : ℕ) where
   q = codes * codes
 
   early : (u k source target j : ℕ) → Whole.plan h q u ≡ fill k source target j → u < h * q
-  early u k source target j p = ⊎_elim (λ (l : u < h * q). l) (λ (l : h * q ≤ u). row_not_fill (sym (plan_late h q u l) ∙ p)) (lt_or_ge u (h * q))
+  early u k source target j p = ⊎_elim (λ (l : u < h * q). l) (λ (l : h * q ≤ u). row_not_fill (sym (plan_late h q u l) ∙ p)) (cases_lt u (h * q))
 
   late : (u r source : ℕ) → Whole.plan h q u ≡ row r source → u ≡ h * q + r
   late u r source p =
@@ -214,7 +214,7 @@ module _ (codes h most : ℕ) where
       (λ (l : h * q ≤ u).
       let e : row (u - h * q) ((u - h * q) * q) ≡ row r source = sym (plan_late h q u l) ∙ p in
       let f : u - h * q ≡ r = cc in omega arith)
-      (lt_or_ge u (h * q))
+      (cases_lt u (h * q))
 
   pub whole_lawful : 0 < h → ShapeLaws (whole codes h most)
   whole_lawful high = record {

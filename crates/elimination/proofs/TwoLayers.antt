@@ -14,7 +14,7 @@ use Rattle.elimination.specs.Task.{fill, row, is_fill}
 use Rattle.elimination.specs.Plan.{Scheduled}
 use Rattle.elimination.specs.Places.{writes, Stands, Orderly}
 use Rattle.elimination.specs.TwoLayers.{half, fill_in, plan_from, plan, start_of, schedule, Lengths, two_layers, TwoLayersComplete}
-use Rattle.elimination.proofs.Numbers.{lt_or_ge}
+use Rattle.std.proofs.lemmas.Bool.{cases_lt}
 use Rattle.elimination.proofs.Task.{row_not_fill}
 use Rattle.elimination.proofs.Places.{orderly_sound}
 use Rattle.elimination.proofs.Completion.{job_completes}
@@ -97,7 +97,7 @@ module _ (h q : ℕ) where
   locate (suc r) l u b =
       ⊎_elim (λ (c : u < start_of h q r). locate r (omega arith) u c)
       (λ (c : start_of h q r ≤ u). record { before = r; step = u - start_of h q r; one = l; is = omega arith; most = omega (arith, start_more r) })
-      (lt_or_ge u (start_of h q r))
+      (cases_lt u (start_of h q r))
 
   -- ---- lengths
   start_length : (r : ℕ) → r ≤ h → 2 * start_of h q r + (h - r) * (h - r + 1) * q ≡ h * (h + 1) * q + 2 * r
@@ -173,7 +173,7 @@ module _ (h q : ℕ) (some : 0 < q) where
           let f : h - k ≡ h - v / q + 1 = omega arith in
           halves q (h - v / q) i (v % q) li over (ap (λ (x : ℕ). half q x + i) (sym f) ∙ e))
           (eq-or-lt_of_le c))
-          (lt_or_ge (v / q) k)
+          (cases_lt (v / q) k)
 
       since : (v : ℕ) → start_of h q r + (k * q + i) < v → v < start_of h q r + m → writes (plan h q v) (half q (h - k) + i) ≡ false
       since v a b =

@@ -1,4 +1,5 @@
 // Life and its like: one step of a board under a rule, ring included, and whether a board is a still life.
+// Rule, size and cells are parameters of both, as the documents have them, since each takes every input.
 #![tactic(auto)]
 
 use board::Refusal;

@@ -2,7 +2,8 @@
 // count of neighbours. Prints what was tried.
 #![tactic(auto)]
 
-use life::Verdict;
+use life::Change;
+use plain::digits;
 use rule::Rule;
 
 mod compared;
@@ -27,21 +28,33 @@ fn main() {
 
 // Boards with a name, each with its verdict.
 fn known_boards() {
-    judge(b"block", rule::conway(), 2, 2, 4, 0b1111);
-    judge(b"blinker", rule::conway(), 5, 3, 15, 0b00000_01110_00000);
-    judge(b"tub", rule::conway(), 3, 3, 9, 0b010_101_010);
-    judge(b"boat", rule::conway(), 3, 3, 9, 0b110_101_010);
-    judge(b"beehive", rule::conway(), 4, 3, 12, 0b0110_1001_0110);
-    judge(b"rows 3, 5, 6", rule::conway(), 3, 3, 9, 0b011_101_110);
-    judge(b"row of three", rule::conway(), 3, 1, 3, 0b111);
-    verdict(
-        b"10 by 60, dead",
-        life::judge(rule::conway(), 10, 60, &[0u8; 600]),
+    judge(b"block", rule::conway(), 2, 2, &digits::<4>(0b11_11));
+    judge(
+        b"blinker",
+        rule::conway(),
+        5,
+        3,
+        &digits::<15>(0b00000_01110_00000),
     );
-    verdict(
-        b"10 by 60, live",
-        life::judge(rule::conway(), 10, 60, &[1u8; 600]),
+    judge(b"tub", rule::conway(), 3, 3, &digits::<9>(0b010_101_010));
+    judge(b"boat", rule::conway(), 3, 3, &digits::<9>(0b110_101_010));
+    judge(
+        b"beehive",
+        rule::conway(),
+        4,
+        3,
+        &digits::<12>(0b0110_1001_0110),
     );
+    judge(
+        b"rows 3, 5, 6",
+        rule::conway(),
+        3,
+        3,
+        &digits::<9>(0b011_101_110),
+    );
+    judge(b"row of three", rule::conway(), 3, 1, &digits::<3>(0b111));
+    judge(b"10 by 60, dead", rule::conway(), 10, 60, &[0; 600]);
+    judge(b"10 by 60, live", rule::conway(), 10, 60, &[1; 600]);
 }
 
 // The table's entries for some patterns.
@@ -62,29 +75,64 @@ fn barred() -> Rule {
 
 // Each refusal of a step, in the order of its checks, each with what the later checks would refuse too.
 fn steps_refused() {
-    step(b"step, width 0, height 61", barred(), 0, 61, 3, 0b111, 15);
-    step(b"step, width 11, height 0", barred(), 11, 0, 3, 0b111, 15);
-    step(b"step, height 0, births on 0", barred(), 2, 0, 3, 0b111, 15);
+    let cells = digits::<3>(0b111);
+    let block = digits::<4>(0b11_11);
+    step(
+        b"step, width 0, height 61",
+        barred(),
+        0,
+        61,
+        &cells,
+        &mut [9; 15],
+    );
+    step(
+        b"step, width 11, height 0",
+        barred(),
+        11,
+        0,
+        &cells,
+        &mut [9; 15],
+    );
+    step(
+        b"step, height 0, births on 0",
+        barred(),
+        2,
+        0,
+        &cells,
+        &mut [9; 15],
+    );
     step(
         b"step, height 61, births on 0",
         barred(),
         2,
         61,
-        3,
-        0b111,
-        15,
+        &cells,
+        &mut [9; 15],
     );
     step(
         b"step, births on 0, 3 cells of 4",
         barred(),
         2,
         2,
-        3,
-        0b111,
-        15,
+        &cells,
+        &mut [9; 15],
     );
-    step(b"step, 3 cells of 4", rule::conway(), 2, 2, 3, 0b111, 15);
-    step(b"step, 5 cells of 4", rule::conway(), 2, 2, 5, 0b111, 15);
+    step(
+        b"step, 3 cells of 4",
+        rule::conway(),
+        2,
+        2,
+        &cells,
+        &mut [9; 15],
+    );
+    step(
+        b"step, 5 cells of 4",
+        rule::conway(),
+        2,
+        2,
+        &digits::<5>(0b111),
+        &mut [9; 15],
+    );
     report::check(
         b"step, cells 0, 1, 2 of 4",
         life::step(rule::conway(), 2, 2, &[0, 1, 2], &mut [9; 15]),
@@ -98,45 +146,49 @@ fn steps_refused() {
         rule::conway(),
         2,
         2,
-        4,
-        0b1111,
-        15,
+        &block,
+        &mut [9; 15],
     );
     step(
         b"step, a ring of 17 bytes",
         rule::conway(),
         2,
         2,
-        4,
-        0b1111,
-        17,
+        &block,
+        &mut [9; 17],
     );
     step(
         b"step, a ring of 16 bytes",
         rule::conway(),
         2,
         2,
-        4,
-        0b1111,
-        16,
+        &block,
+        &mut [9; 16],
     );
 }
 
 fn judgements_refused() {
-    judge(b"judge, width 0, height 61", barred(), 0, 61, 3, 0);
-    judge(b"judge, width 11, height 0", barred(), 11, 0, 3, 0);
-    judge(b"judge, height 0, births on 0", barred(), 2, 0, 3, 0);
-    judge(b"judge, height 61, births on 0", barred(), 2, 61, 3, 0);
-    judge(b"judge, births on 0, 3 cells of 4", barred(), 2, 2, 3, 0);
-    judge(b"judge, 3 cells of 4", rule::conway(), 2, 2, 3, 0);
-    judge(b"judge, 5 cells of 4", rule::conway(), 2, 2, 5, 0);
-    verdict(
+    let cells = [0; 3];
+    judge(b"judge, width 0, height 61", barred(), 0, 61, &cells);
+    judge(b"judge, width 11, height 0", barred(), 11, 0, &cells);
+    judge(b"judge, height 0, births on 0", barred(), 2, 0, &cells);
+    judge(b"judge, height 61, births on 0", barred(), 2, 61, &cells);
+    judge(b"judge, births on 0, 3 cells of 4", barred(), 2, 2, &cells);
+    judge(b"judge, 3 cells of 4", rule::conway(), 2, 2, &cells);
+    judge(b"judge, 5 cells of 4", rule::conway(), 2, 2, &[0; 5]);
+    judge(
         b"judge, cells 0, 255, 1 of 4",
-        life::judge(rule::conway(), 2, 2, &[0, 255, 1]),
+        rule::conway(),
+        2,
+        2,
+        &[0, 255, 1],
     );
-    verdict(
+    judge(
         b"judge, cells 0, 255, 1, 2",
-        life::judge(rule::conway(), 2, 2, &[0, 255, 1, 2]),
+        rule::conway(),
+        2,
+        2,
+        &[0, 255, 1, 2],
     );
 }
 
@@ -185,57 +237,22 @@ fn targets_refused() {
     );
 }
 
-// Judges n cells, the last digits of a number.
-fn judge(name: &[u8], rule: Rule, w: usize, h: usize, n: usize, number: usize) {
-    let mut cells = [0u8; 16];
-    plain::write_digits(&mut cells, number);
-    judge_last(name, rule, w, h, &cells, n);
+// Steps a board into nines, and prints how many bytes are no nine afterwards.
+fn step(name: &[u8], rule: Rule, w: usize, h: usize, cells: &[u8], ring: &mut [u8]) {
+    report::check(name, life::step(rule, w, h, cells, ring));
+    report::line(b"  bytes written: ", plain::other_than(ring, 9));
 }
 
-fn judge_last(name: &[u8], rule: Rule, w: usize, h: usize, cells: &[u8], n: usize) {
-    if n <= cells.len() {
-        let from = cells.len() - n;
-        verdict(name, life::judge(rule, w, h, &cells[from..]));
-    }
-}
-
-// Steps n cells, the last digits of a number, into m bytes of nines, and prints how many bytes are no nine afterwards.
-fn step(name: &[u8], rule: Rule, w: usize, h: usize, n: usize, number: usize, m: usize) {
-    let mut cells = [0u8; 16];
-    plain::write_digits(&mut cells, number);
-    let mut ring = [9u8; 32];
-    step_last(name, rule, w, h, &cells, n, &mut ring, m);
-    report::line(b"  bytes written: ", plain::other_than(&ring, 9));
-}
-
-fn step_last(
-    name: &[u8],
-    rule: Rule,
-    w: usize,
-    h: usize,
-    cells: &[u8],
-    n: usize,
-    ring: &mut [u8],
-    m: usize,
-) {
-    if n <= cells.len() {
-        let from = cells.len() - n;
-        if m <= ring.len() {
-            report::check(name, life::step(rule, w, h, &cells[from..], &mut ring[..m]));
-        }
-    }
-}
-
-// A line: a name and a verdict.
-fn verdict(name: &[u8], v: Verdict) {
+// A line: a name and a board's verdict.
+fn judge(name: &[u8], rule: Rule, w: usize, h: usize, cells: &[u8]) {
     report::text(name);
-    match v {
-        Verdict::Still => report::text(b": still\n"),
-        Verdict::Changes { row, column } => {
+    match life::judge(rule, w, h, cells) {
+        Ok(None) => report::text(b": still\n"),
+        Ok(Some(Change { row, column })) => {
             report::text(b": changes at row ");
             report::number(row);
             report::line(b", column ", column);
         }
-        Verdict::Refused(r) => report::refusal(r),
+        Err(r) => report::refusal(r),
     }
 }

@@ -1,249 +1,208 @@
 // A rule by counting neighbours, written apart from the library, and rules and boards to try.
 ghost use Rattle.std.specs.Prelude.{◌≤◌};
 
-use life::Verdict;
+use life::Change;
 use rule::Rule;
-use std::num;
 
-// A rule: for each count of live neighbours, 0 to 9, 1 where it is a birth count and where it is a survival count.
+// A rule: of each count of live neighbours, 0 to 9, whether it is a birth count and whether it is a survival count. Two lists, as the library's rule
+// has two numbers.
 #[derive(Clone, Copy)]
 pub struct Counts {
-    pub births: [u8; 10],
-    pub survivals: [u8; 10],
+    births: [bool; 10],
+    survivals: [bool; 10],
 }
 
-// A rule, and the seed for the next.
-#[derive(Clone, Copy)]
-pub struct Random {
-    pub counts: Counts,
-    pub seed: u64,
-}
+impl Counts {
+    // The rule with the counts that are listed.
+    pub fn of(births: &[usize], survivals: &[usize]) -> Counts {
+        Counts {
+            births: marked(births),
+            survivals: marked(survivals),
+        }
+    }
 
-// The library's two numbers of a rule.
-pub fn rule_of(counts: Counts) -> Rule {
-    let births = counts.births;
-    let survivals = counts.survivals;
-    Rule {
-        births: number_of(births),
-        survivals: number_of(survivals),
+    // Whether the rule is not barred.
+    pub fn is_allowed(&self) -> bool {
+        !self.births[0] && !self.births[9] && !self.survivals[9]
+    }
+
+    // The rule without what would bar it.
+    pub fn allowed(mut self) -> Counts {
+        self.births[0] = false;
+        self.births[9] = false;
+        self.survivals[9] = false;
+        self
+    }
+
+    // How many entries of a table are not the next state of their pattern's centre.
+    pub fn wrong_entries(&self, table: &[u8; 512]) -> usize {
+        table
+            .iter()
+            .enumerate()
+            .filter(|(p, state)| **state != u8::from(self.next_of(*p)))
+            .count()
+    }
+
+    // The next state of a pattern's centre.
+    fn next_of(&self, p: usize) -> bool {
+        let grid = Grid {
+            counts: self,
+            width: 3,
+            height: 3,
+            cells: &digits::<9>(p),
+        };
+        grid.next(2, 2)
     }
 }
 
-// Count n adds 2^n.
-fn number_of(counts: [u8; 10]) -> usize {
-    let mut sum = 0;
-    let mut worth = 1;
-    for n in 0..10 {
-        if counts[n] == 1 {
-            sum = num::wrapping_add_usize(sum, worth);
+// The library's two numbers of a rule.
+impl From<Counts> for Rule {
+    fn from(counts: Counts) -> Rule {
+        Rule {
+            births: number_of(&counts.births),
+            survivals: number_of(&counts.survivals),
         }
-        worth = num::wrapping_add_usize(worth, worth);
+    }
+}
+
+fn marked(counts: &[usize]) -> [bool; 10] {
+    let mut marks = [false; 10];
+    for n in counts {
+        if let Some(mark) = marks.get_mut(*n) {
+            *mark = true;
+        }
+    }
+    marks
+}
+
+// Count n adds 2^n.
+fn number_of(counts: &[bool; 10]) -> usize {
+    let mut sum = 0usize;
+    for count in counts.iter().rev() {
+        sum = sum.wrapping_add(sum).wrapping_add(usize::from(*count));
     }
     sum
 }
 
-// Whether a rule is not barred.
-pub fn is_allowed(counts: Counts) -> bool {
-    let births = counts.births;
-    let survivals = counts.survivals;
-    births[0] == 0 && births[9] == 0 && survivals[9] == 0
+// Pseudo-random cells and rules, by a linear congruence modulo 2^31.
+#[derive(Drop)]
+pub struct Random {
+    state: u64,
 }
 
-// The rule without what would bar it.
-pub fn allowed(counts: Counts) -> Counts {
-    let mut births = counts.births;
-    let mut survivals = counts.survivals;
-    births[0] = 0;
-    births[9] = 0;
-    survivals[9] = 0;
-    Counts { births, survivals }
-}
-
-// A pseudo-random rule, barred ones among them.
-pub fn random_rule(seed: u64) -> Random {
-    let mut births = [0u8; 10];
-    let mut survivals = [0u8; 10];
-    let half = write_random(&mut births, seed);
-    let seed = write_random(&mut survivals, half);
-    let counts = Counts { births, survivals };
-    Random { counts, seed }
-}
-
-// A cell of a board; rows i and columns j are one more than the ring's, so that none before the ring is negative.
-fn cell(w: usize, h: usize, cells: &[u8], i: usize, j: usize) -> u8
-    requires { (w ≤ 10) × (h ≤ 60) }
-{
-    if i < 2 {
-        return 0;
+impl Random {
+    pub fn new() -> Random {
+        Random { state: 1 }
     }
-    if h + 1 < i {
-        return 0;
-    }
-    if j < 2 {
-        return 0;
-    }
-    if w + 1 < j {
-        return 0;
-    }
-    let k = (i - 2) * w + (j - 2);
-    if k < cells.len() { cells[k] } else { 0 }
-}
 
-// The live cells among three neighbouring ones of a row.
-fn three(w: usize, h: usize, cells: &[u8], i: usize, j: usize) -> u8
-    requires { (w ≤ 10) × (h ≤ 60) × (j ≤ 100) }
-{
-    num::wrapping_add_u8(
-        num::wrapping_add_u8(cell(w, h, cells, i, j), cell(w, h, cells, i, j + 1)),
-        cell(w, h, cells, i, j + 2),
-    )
-}
-
-// The next state in row r and column c, ring counted.
-fn next(counts: Counts, w: usize, h: usize, cells: &[u8], r: usize, c: usize) -> u8
-    requires { (w ≤ 10) × (h ≤ 60) × (r ≤ 100) × (c ≤ 100) }
-{
-    let centre = cell(w, h, cells, r + 1, c + 1);
-    let all = num::wrapping_add_u8(
-        num::wrapping_add_u8(three(w, h, cells, r, c), three(w, h, cells, r + 1, c)),
-        three(w, h, cells, r + 2, c),
-    );
-    state(counts, centre, num::wrapping_sub_u8(all, centre) as usize)
-}
-
-// A cell's next state, by its state and its number of live neighbours.
-fn state(counts: Counts, centre: u8, live: usize) -> u8 {
-    let births = counts.births;
-    let survivals = counts.survivals;
-    if 8 < live {
-        return 9;
+    fn bit(&mut self) -> bool {
+        let x = self.state % 2147483648 * 1103515245 % 2147483648 + 12345;
+        self.state = x;
+        x / 65536 % 2 == 1
     }
-    if centre == 0 {
-        births[live]
-    } else {
-        survivals[live]
-    }
-}
 
-// How many entries of a table are not the next state of their pattern's centre.
-pub fn wrong_entries(counts: Counts, table: &[u8; 512]) -> usize {
-    let mut wrong = 0;
-    for p in 0..512 {
-        let mut cells = [0u8; 9];
-        write_digits(&mut cells, p);
-        if table[p] != next(counts, 3, 3, &cells, 2, 2) {
-            wrong = num::wrapping_add_usize(wrong, 1);
+    pub fn fill(&mut self, cells: &mut [u8]) {
+        for cell in cells.iter_mut() {
+            *cell = u8::from(self.bit());
         }
     }
-    wrong
-}
 
-// How many bytes of a stepped board are not the next state.
-pub fn wrong_bytes(counts: Counts, w: usize, h: usize, cells: &[u8], ring: &[u8]) -> usize
-    requires { (w ≤ 10) × (h ≤ 60) }
-{
-    let mut wrong = 0;
-    let mut from = 0;
-    for r in 0..h + 2 {
-        wrong = num::wrapping_add_usize(wrong, wrong_in_row(counts, w, h, cells, ring, r, from));
-        from = num::wrapping_add_usize(from, w + 2);
+    // A rule, barred ones among them.
+    pub fn counts(&mut self) -> Counts {
+        let births = self.marks();
+        let survivals = self.marks();
+        Counts { births, survivals }
     }
-    wrong
-}
 
-// The same of row r, whose bytes start at a place.
-fn wrong_in_row(
-    counts: Counts,
-    w: usize,
-    h: usize,
-    cells: &[u8],
-    ring: &[u8],
-    r: usize,
-    from: usize,
-) -> usize
-    requires { (w ≤ 10) × (h ≤ 60) × (r ≤ 61) }
-{
-    let mut wrong = 0;
-    for c in 0..w + 2 {
-        let k = num::wrapping_add_usize(from, c);
-        if ring.len() <= k {
-            return 1;
+    fn marks(&mut self) -> [bool; 10] {
+        let mut marks = [false; 10];
+        for mark in marks.iter_mut() {
+            *mark = self.bit();
         }
-        if ring[k] != next(counts, w, h, cells, r, c) {
-            wrong = num::wrapping_add_usize(wrong, 1);
-        }
+        marks
     }
-    wrong
 }
 
-// The first cell of a row that changes, columns counted with the ring, or w + 2.
-fn change_in_row(counts: Counts, w: usize, h: usize, cells: &[u8], r: usize) -> usize
-    requires { (w ≤ 10) × (h ≤ 60) × (r ≤ 61) }
-{
-    for c in 0..w + 2 {
-        if next(counts, w, h, cells, r, c) != cell(w, h, cells, r + 1, c + 1) {
-            return c;
+// A board under a rule.
+#[derive(Clone, Copy)]
+pub struct Grid<'a> {
+    pub counts: &'a Counts,
+    pub width: usize,
+    pub height: usize,
+    pub cells: &'a [u8],
+    ghost sized: { (width ≤ 10) × (height ≤ 60) },
+}
+
+impl Grid<'_> {
+    // Whether a cell is live; rows i and columns j are one more than the ring's, so that none before the ring is negative.
+    fn is_live(&self, i: usize, j: usize) -> bool {
+        if i < 2 || self.height + 1 < i || j < 2 || self.width + 1 < j {
+            return false;
         }
+        self.cells.get((i - 2) * self.width + (j - 2)).copied() == Some(1)
     }
-    w + 2
-}
 
-// Whether a verdict is not that of the plain count.
-pub fn wrong_verdict(counts: Counts, w: usize, h: usize, cells: &[u8], v: Verdict) -> bool
-    requires { (w ≤ 10) × (h ≤ 60) }
-{
-    for r in 0..h + 2 {
-        let c = change_in_row(counts, w, h, cells, r);
-        if c < w + 2 {
-            return !is_change(v, r, c);
+    // The live cells among three neighbouring ones of a row.
+    fn three(&self, i: usize, j: usize) -> usize
+        requires { j ≤ 100 }
+        ensures { result ≤ 3 }
+    {
+        usize::from(self.is_live(i, j))
+            + usize::from(self.is_live(i, j + 1))
+            + usize::from(self.is_live(i, j + 2))
+    }
+
+    // Whether the cell in row r and column c, ring counted, is live next.
+    fn next(&self, r: usize, c: usize) -> bool
+        requires { (r ≤ 100) × (c ≤ 100) }
+    {
+        let beside = usize::from(self.is_live(r + 1, c)) + usize::from(self.is_live(r + 1, c + 2));
+        let live = self.three(r, c) + beside + self.three(r + 2, c);
+        if self.is_live(r + 1, c + 1) {
+            self.counts.survivals[live]
+        } else {
+            self.counts.births[live]
         }
     }
-    !is_still(v)
-}
 
-pub fn is_still(v: Verdict) -> bool {
-    match v {
-        Verdict::Still => true,
-        Verdict::Changes { row: _, column: _ } => false,
-        Verdict::Refused(_) => false,
+    // How many bytes of a stepped board are not the next state.
+    pub fn wrong_bytes(&self, ring: &[u8]) -> usize {
+        let mut wrong = 0usize;
+        for r in 0..self.height + 2 {
+            for c in 0..self.width + 2 {
+                if ring.get(r * (self.width + 2) + c).copied() != Some(u8::from(self.next(r, c))) {
+                    wrong = wrong.wrapping_add(1);
+                }
+            }
+        }
+        wrong
     }
-}
 
-fn is_change(v: Verdict, r: usize, c: usize) -> bool {
-    match v {
-        Verdict::Still => false,
-        Verdict::Changes { row, column } => row == r && column == c,
-        Verdict::Refused(_) => false,
+    // The first cell that changes, ring counted.
+    pub fn first_change(&self) -> Option<Change> {
+        for row in 0..self.height + 2 {
+            for column in 0..self.width + 2 {
+                if self.next(row, column) != self.is_live(row + 1, column + 1) {
+                    return Some(Change { row, column });
+                }
+            }
+        }
+        None
     }
 }
 
 // How many bytes are not a given one.
-pub fn other_than(s: &[u8], b: u8) -> usize {
-    let mut n = 0;
-    for k in 0..s.len() {
-        if s[k] != b {
-            n = num::wrapping_add_usize(n, 1);
-        }
-    }
-    n
+pub fn other_than(bytes: &[u8], b: u8) -> usize {
+    bytes.iter().filter(|byte| **byte != b).count()
 }
 
 // The binary digits of a number, the most significant first.
-pub fn write_digits(cells: &mut [u8], number: usize) {
-    let n = cells.len();
+pub fn digits<const N: usize>(number: usize) -> [u8; N] {
+    let mut cells = [0; N];
     let mut rest = number;
-    for k in 0..n {
-        cells[n - 1 - k] = (rest % 2) as u8;
+    for cell in cells.iter_mut().rev() {
+        *cell = (rest % 2) as u8;
         rest = rest / 2;
     }
-}
-
-// Pseudo-random cells, by a linear congruence modulo 2^31; the seed for the next board.
-pub fn write_random(cells: &mut [u8], seed: u64) -> u64 {
-    let mut x = seed;
-    for k in 0..cells.len() {
-        x = x % 2147483648 * 1103515245 % 2147483648 + 12345;
-        cells[k] = (x / 65536 % 2) as u8;
-    }
-    x
+    cells
 }

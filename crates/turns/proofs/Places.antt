@@ -2,13 +2,14 @@
 -- Assumes nothing.
 use mathlib.Core.Path.{◌≡◌, refl, sym, ◌∙◌, ap}
 use mathlib.Core.Bool.{Bool, true, false}
-use mathlib.Core.List.{List, [], ◌∷◌, map}
+use mathlib.Core.List.{List}
 use Prim.Native.Nat.{ℕ, zero, suc, ◌*◌, ◌<◌}
-use native.Mathlib.Nat.{mul_comm, mod-lt, div-add-mod', div-lt_iff_lt-mul, not-suc-le-zero, le_of_suc-le-suc}
+use native.Mathlib.Nat.{mul_comm, mod-lt, div-add-mod', div-lt_iff_lt-mul}
 use native.Mathlib.Omega.{arith}
 use lib.Arith.{digits_lt, digits_div, digits_mod}
 use lib.ListN.{length, get_or, length-map}
 use lib.Seq.{ext_get_or}
+use Rattle.std.proofs.lemmas.List.{get_or-map}
 use Rattle.board.specs.Lists.{listed}
 use Rattle.board.proofs.Lists.{length_listed, get_d_listed}
 use Rattle.turns.specs.Turn.{Quarters, none, once, twice, thrice, Turn, ◌and_then◌, no_turn, inverse, side_after, turned_width, turned_height, Cell, cell_from, place_in, cell_at, source, turned_list}
@@ -41,12 +42,6 @@ side_area thrice w h = mul_comm h w
 pub area : (t : Turn) (w h : ℕ) → turned_width t w h * turned_height t w h ≡ w * h
 area t w h = side_area t.quarters w h
 
--- an entry of a list that is made place by place
-get_d_mapped : {A : Type 0} (f : ℕ → A) (d : A) (xs : List ℕ) (k : ℕ) → k < length xs → get_or (map f xs) k d ≡ f (get_or xs k 0)
-get_d_mapped f d [] k l = absurd (not-suc-le-zero l)
-get_d_mapped f d (x ∷ xs) zero l = refl
-get_d_mapped f d (x ∷ xs) (suc k) l = get_d_mapped f d xs k (le_of_suc-le-suc l)
-
 -- ---- what a place reads
 module _ (t : Turn) (w h : ℕ) where
   from_at : {k : ℕ} → k < w * h → Inside w h (cell_from t w h (cell_at (turned_width t w h) k))
@@ -68,7 +63,7 @@ module _ (t : Turn) (w h : ℕ) where
     pub turned_at : {k : ℕ} → k < w * h → get_or (turned_list d t w h xs) k d ≡ get_or xs (source t w h k) d
     unfolding turned_list
     turned_at {k} l =
-        get_d_mapped (λ k. get_or xs (source t w h k) d) d (listed (λ k. k) (w * h)) k (rw (length_listed (λ k. k) (w * h)) l)
+        get_or-map (λ k. get_or xs (source t w h k) d) (listed (λ k. k) (w * h)) k 0 d (rw (length_listed (λ k. k) (w * h)) l)
         ∙ ap (λ x. get_or xs (source t w h x) d) (get_d_listed (λ k. k) (w * h) k l)
 
     -- a cell of the turned grid

@@ -1,11 +1,11 @@
--- `columns::masks_of` meets its contract: a turn writes eight lanes.
+-- `columns::EightRows::masks` meets its contract: a turn writes eight lanes.
 -- Assumes nothing.
 use Prim.Native.Nat.{ℕ, ◌+◌, ◌*◌, ◌/◌, ◌%◌}
 use borrow.Author.Rules.{rules}
 use lib.ListN.{get_or}
 use Rattle.std.proofs.Common.{tests}
 use Rattle.column_elimination.proofs.Turns.{masks_turn}
-use Rattle.columns.proofs.masks_of.Goals as goal
+use Rattle.columns.proofs.EightRows.masks.Goals as goal
 
 pub loop-t-preserved : goal.loop-t-preserved
 loop-t-preserved c =

@@ -1,4 +1,4 @@
--- `columns::last_of` meets its contract: a turn writes eight lanes.
+-- `columns::EightRows::last_masks` meets its contract: a turn writes eight lanes.
 -- Assumes nothing.
 use Prim.Native.Nat.{ℕ, ◌+◌, ◌*◌, ◌/◌, ◌%◌}
 use borrow.Author.Rules.{rules}
@@ -6,7 +6,7 @@ use lib.Bits.{bit_and}
 use lib.ListN.{get_or}
 use Rattle.std.proofs.Common.{tests}
 use Rattle.column_elimination.proofs.Turns.{last_turn}
-use Rattle.columns.proofs.last_of.Goals as goal
+use Rattle.columns.proofs.EightRows.last_masks.Goals as goal
 
 pub loop-t-preserved : goal.loop-t-preserved
 loop-t-preserved c =
