@@ -36,7 +36,7 @@ loop-c-preserved c =
     let none = rw c.in_default.is at c.first_failing.ensures in (
       omega arith,
       held_next_at _ _ _ _ _ _ _ _ _ p.0 p.1 p.2 p.3 _ columns (omega arith) c.loop-c.invariant.1 _ _ (rw c.row_for-row.ensures.0 at none) refl
-          (rw (c.offer.ensures, c.row_for-row.ensures.0) at c.consider-held.ensures),
+          (rw (c.offer-offered.ensures, c.row_for-row.ensures.0) at c.consider-held.ensures),
     )
 
 pub returns : goal.returns
