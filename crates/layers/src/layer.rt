@@ -31,16 +31,6 @@ struct Rows<'a> {
     ghost gained: { Gained w limit worth.now },
 }
 
-// The numbers of eight rows b after an even and after an odd number of columns, and the masks of a column and of the last two.
-#[derive(Drop)]
-struct Vectors {
-    even: [u16; VECTOR],
-    odd: [u16; VECTOR],
-    masks: [u16; MASKS],
-    last: [u16; LAST_MASKS],
-    ghost lengths: { (length even ≡ 32768) × (length odd ≡ 32768) × (length masks ≡ 512) × (length last ≡ 128) },
-}
-
 // The layer that starts at `target`, by the layer that starts at `source`.
 pub fn fill(grid: Grid<'_>, entries: Entries, table: &mut [u16])
     requires { LayerLent grid.want grid.width grid.height entries.after entries.source entries.target grid.givens.now table.old }
@@ -66,14 +56,11 @@ fn fill_rows(rows: Rows<'_>, source: usize, target: usize, table: &mut [u16])
     requires { (3 ≤ rows.w) × Apart (2 ^ rows.w * 2 ^ rows.w) source target × (source + 2 ^ rows.w * 2 ^ rows.w ≤ length table.old) × (target + 2 ^ rows.w * 2 ^ rows.w ≤ length table.old) }
     ensures { (next : ℕ → ℕ) → Keeps next rows.entry.keep.now → Partly (2 ^ rows.entry.w) target (2 ^ rows.entry.w) (λ a b. entry_by rows.entry.limit next rows.entry.w (λ c. get_or rows.entry.worth.now c 0) table.old source a b) table.old table.new }
 {
-    let mut vectors = Vectors {
-        even: [0; VECTOR],
-        odd: [0; VECTOR],
-        masks: [0; MASKS],
-        last: [0; LAST_MASKS],
-    };
+    // Two arrays, and not one struct of both: so the compiler sees that they lie apart, and eight lanes become one instruction.
+    let mut even = [0; VECTOR];
+    let mut odd = [0; VECTOR];
     for v in 0..rows.n / 8 {
-        fill_eight(rows, 8 * v, source, target, table, &mut vectors);
+        fill_eight(rows, 8 * v, source, target, table, &mut even, &mut odd);
     }
 }
 
@@ -87,23 +74,25 @@ fn gains(grid: Grid<'_>, n: usize, r: usize, worth: &mut [u16; ROWS])
     }
 }
 
-// The entries of eight rows b below every row a.
+// The entries of eight rows b below every row a. After an even number of columns the one vector holds their numbers, after an odd number the other.
 fn fill_eight(
     rows: Rows<'_>,
     b: usize,
     source: usize,
     target: usize,
     table: &mut [u16],
-    v: &mut Vectors,
+    even: &mut [u16; VECTOR],
+    odd: &mut [u16; VECTOR],
 )
     requires { (b + 8 ≤ 2 ^ rows.w) × (source + 2 ^ rows.w * 2 ^ rows.w ≤ length table.old) × (target + 2 ^ rows.w * 2 ^ rows.w ≤ length table.old) }
     ensures { (next : ℕ → ℕ) → Keeps next rows.entry.keep.now → Spread (2 ^ rows.entry.w) target b (2 ^ rows.entry.w) (λ a l. entry_by rows.entry.limit next rows.entry.w (λ c. get_or rows.entry.worth.now c 0) table.old source a (b + l)) table.old table.new }
 {
-    load(rows, table, source + b * rows.n, &mut v.even);
+    load(rows, table, source + b * rows.n, even);
+    let mut masks = [0; MASKS];
     for j in 0..rows.w {
-        turn(rows, b, j, v);
+        turn(rows, b, j, even, odd, &mut masks);
     }
-    finish(rows, b, v, table, target);
+    finish(rows, b, even, odd, table, target);
 }
 
 // Loads the numbers of eight rows b, whose entries start at `first`; the two cells before those of row c are dead.
@@ -158,28 +147,43 @@ fn number(limit: u16, gain: u16, entry: u16) -> u16
 }
 
 // Column j, from one vector to the other.
-fn turn(rows: Rows<'_>, b: usize, j: usize, v: &mut Vectors)
+fn turn(
+    rows: Rows<'_>,
+    b: usize,
+    j: usize,
+    even: &mut [u16; VECTOR],
+    odd: &mut [u16; VECTOR],
+    masks: &mut [u16; MASKS],
+)
     requires { (b + 8 ≤ 2 ^ rows.w) × (j < rows.w) }
-    ensures { (next : ℕ → ℕ) → Keeps next rows.entry.keep.now → Turned next rows.entry.w b j v.old.even v.old.odd v.new.even v.new.odd }
+    ensures { (next : ℕ → ℕ) → Keeps next rows.entry.keep.now → Turned next rows.entry.w b j even.old odd.old even.new odd.new }
 {
-    columns::column_masks(rows.keep, rows.w, b, j, &mut v.masks);
+    columns::column_masks(rows.keep, rows.w, b, j, masks);
     if j % 2 == 0 {
-        columns::column(&v.even, &v.masks, rows.w, j, &mut v.odd);
+        columns::column(even, masks, rows.w, j, odd);
     } else {
-        columns::column(&v.odd, &v.masks, rows.w, j, &mut v.even);
+        columns::column(odd, masks, rows.w, j, even);
     }
 }
 
 // The last two columns, and the entries.
-fn finish(rows: Rows<'_>, b: usize, v: &mut Vectors, table: &mut [u16], target: usize)
+fn finish(
+    rows: Rows<'_>,
+    b: usize,
+    even: &[u16; VECTOR],
+    odd: &[u16; VECTOR],
+    table: &mut [u16],
+    target: usize,
+)
     requires { (b + 8 ≤ 2 ^ rows.w) × (target + 2 ^ rows.w * 2 ^ rows.w ≤ length table.old) }
-    ensures { (next : ℕ → ℕ) → Keeps next rows.entry.keep.now → Ended next rows.entry.w b target (front rows.entry.w v.old.even v.old.odd) table.old table.new }
+    ensures { (next : ℕ → ℕ) → Keeps next rows.entry.keep.now → Ended next rows.entry.w b target (front rows.entry.w even.now odd.now) table.old table.new }
 {
-    columns::last_masks(rows.keep, rows.w, b, &mut v.last);
+    let mut last = [0; LAST_MASKS];
+    columns::last_masks(rows.keep, rows.w, b, &mut last);
     if rows.w % 2 == 0 {
-        write_all(&v.even, &v.last, rows.n, table, target, b);
+        write_all(even, &last, rows.n, table, target, b);
     } else {
-        write_all(&v.odd, &v.last, rows.n, table, target, b);
+        write_all(odd, &last, rows.n, table, target, b);
     }
 }
 

@@ -60,7 +60,7 @@ module _ (want : Want) (next : ℕ → ℕ) (w : ℕ) (givens : List ℕ) (at a 
   unfolding steps_to
   offer_apart x j l e = rw (all_false (turns x) (w + 2) j l e)
 
-  offer_stands : (x : ℕ) → steps x ≡ true → offers x ≡ offered want w givens at (row_for want w x) (read x)
+  offer_stands : (x : ℕ) → steps x ≡ true → offers x ≡ offered want.limit w marks at (row_for want w x) (read x)
   offer_stands x e = rw e (go (row_kept w marks at (row_for want w x)))
     where
       go : (t : Bool) → offer_if G t 0 read x
@@ -124,7 +124,7 @@ module _ (want : Want) (next : ℕ → ℕ) (w : ℕ) (givens : List ℕ) (at a 
         rw q at (held_run (m - c) H failing)
 
     pub held_next_at : (r : Option Best) (read_c : ℕ) → None ≡ first_not test (w + 2) → read_c ≡ read c
-        → choice_of r ≡ consider (compared want) c (offered want w givens at (row_for want w c) read_c) (choice_of held) → Held (c + 1) r
+        → choice_of r ≡ consider (compared want) c (offered want.limit w marks at (row_for want w c) read_c) (choice_of held) → Held (c + 1) r
     unfolding steps_to
     held_next_at r read_c e q f = held_next H r (rw q at f ∙ ap (λ (o : Option ℕ). consider (compared want) c o (choice_of held)) (sym (offer_stands c stands)))
       where

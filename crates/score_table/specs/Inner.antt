@@ -7,7 +7,7 @@ use Rattle.elimination.specs.Kind.{Kind, entry, offer_counted}
 use Rattle.elimination.specs.Sums.{sum_worse, sum_kind}
 use Rattle.elimination.specs.Table.{reads}
 use Rattle.life.specs.Rows.{window, steps_to}
-use Rattle.score_table.specs.Rows.{row_worth, row_kept, marks_of, digits_of}
+use Rattle.score_table.specs.Rows.{row_worth, row_kept, digits_of}
 use Rattle.score_table.specs.ScoreTable.{rules, kind_for}
 use Rattle.score_table.specs.declared.Want.{Want}
 use Rattle.score_table.specs.declared.best.Best.{Best}
@@ -29,11 +29,9 @@ passes next w column c j = eqb (next ((column + window w c j) % 512)) ((column +
 unfoldable pub skip_to : ℕ → ℕ → ℕ → ℕ
 skip_to bits x j = (x / 2 ^ (bits - (j + 1)) + 1) * 2 ^ (bits - (j + 1))
 
--- what a row that may stand somewhere by its columns offers, with the number read for it, by the givens that start at a place
-abbrev pub offered : Want → ℕ → List ℕ → ℕ → ℕ → ℕ → Option ℕ
-offered want w givens at row read =
-    cond (row_kept w (marks_of want.predecessor givens) at row)
-    (offer_counted (leb read want.limit) (row_worth w (marks_of want.predecessor givens) at row + read)) None
+-- what a row that may stand somewhere by its columns offers, with the number read for it, by the marks from a place on
+abbrev pub offered : ℕ → ℕ → List ℕ → ℕ → ℕ → ℕ → Option ℕ
+offered limit w marks at row read = cond (row_kept w marks at row) (offer_counted (leb read limit) (row_worth w marks at row + read)) None
 
 -- what the search for the best row found, as a choice
 abbrev pub choice_of : Option Best → Choice ℕ

@@ -5,9 +5,10 @@ ghost use Rattle.rule.specs.Rule.{entry_of};
 ghost use Rattle.elimination.specs.Candidates as Candidates;
 ghost use Rattle.elimination.specs.Kind.{choose};
 ghost use Rattle.score_table.specs.ScoreTable.{reads_from};
-ghost use Rattle.score_table.specs.Rows.{digits_of};
+ghost use Rattle.score_table.specs.Rows.{marks_of, digits_of};
 ghost use Rattle.score_table.specs.Inner.{skip_to, offered, choice_of, compared, kind_by, Found};
 
+use crate::rows::{Above, Marks};
 use crate::{Grid, Want, rows};
 use std::cmp::Ordering;
 
@@ -27,21 +28,19 @@ fn next_row(bits: usize, x: usize, j: usize) -> usize
     ((x >> s) + 1) << s
 }
 
-// What a row offers that may stand somewhere by its columns, with the number read for it: the sum of its worth and that number, where it keeps the
-// givens that start at a place and the number counts.
-fn offer(grid: Grid<'_>, at: usize, row: usize, read: u16) -> Option<usize>
-    requires { (grid.width ≤ max_mirror_width) × (at + grid.width ≤ length grid.givens.now) }
-    ensures { result ≡ offered grid.entry.want grid.entry.width grid.entry.givens.now at row read }
+// What a row offers that may stand somewhere by its columns, with the number read for it: the sum of its worth and that number, where it keeps its marks
+// and the number counts.
+fn offer(limit: usize, marks: Marks<'_>, row: usize, read: u16) -> Option<usize>
+    ensures { result ≡ offered limit marks.entry.w (marks_of marks.entry.target marks.entry.lent.now) marks.entry.at row read }
 {
-    let target = grid.want.predecessor;
-    if !rows::row_kept(target, grid.width, grid.givens, at, row) {
+    if !marks.kept(row) {
         return None;
     }
     let e = read as usize;
-    if grid.want.limit < e {
+    if limit < e {
         return None;
     }
-    Some(rows::row_worth(target, grid.width, grid.givens, at, row) + e)
+    Some(marks.worth(row) + e)
 }
 
 // What is held after a row that comes later, by what it offers.
@@ -85,7 +84,19 @@ pub fn best_row(
     let want = grid.want;
     let bits = board::row_digits(want.halves, w);
     let n = rows::row_codes(bits);
-    let columns = rows::columns(w, rows::row_for(want, w, a), rows::row_for(want, w, b), t);
+    let above = Above {
+        w,
+        a: rows::row_for(want, w, a),
+        b: rows::row_for(want, w, b),
+        t,
+    };
+    let columns = above.columns();
+    let marks = Marks {
+        target: want.predecessor,
+        w,
+        lent: grid.givens,
+        at,
+    };
     let mut held = None;
     let mut c = 0;
     // Document 01, "Forms by place", names this form. A row that fails in a column is skipped with all that have the same cells up to there.
@@ -100,7 +111,8 @@ pub fn best_row(
                 continue 'rows;
             }
         }
-        held = consider(want, held, c, offer(grid, at, row, table[first + c]));
+        let offered = offer(want.limit, marks, row, table[first + c]);
+        held = consider(want, held, c, offered);
         c += 1;
     }
 }

@@ -7,6 +7,7 @@ ghost use Rattle.score_table.specs.Rows.{digits_of};
 ghost use Rattle.score_table.specs.ScoreTable.{absent, kind_for};
 ghost use Rattle.score_table.specs.Inner.{EntriesRead, entry_over, layer_size};
 
+use crate::rows::Above;
 use crate::{Entries, Grid, NONE, best, rows};
 
 // The entries of a layer, 4 to the binary digits of a row's number.
@@ -31,8 +32,19 @@ fn entry_at(grid: Grid<'_>, k: usize, source: usize, j: usize, table: &[u16]) ->
     let row = rows::row_for(want, w, b);
     let t = rows::target_row(want.predecessor, w, grid.givens, r, row);
     if k == 0 {
-        let ends = rows::steps_to(grid.next, w, rows::row_for(want, w, a), row, 0, t)
-            && rows::steps_to(grid.next, w, row, 0, 0, 0);
+        let above = Above {
+            w,
+            a: rows::row_for(want, w, a),
+            b: row,
+            t,
+        };
+        let last = Above {
+            w,
+            a: row,
+            b: 0,
+            t: 0,
+        };
+        let ends = above.steps_to(grid.next, 0) && last.steps_to(grid.next, 0);
         return if ends { 0 } else { NONE };
     }
     match best::best_row(grid, a, b, t, r * w, table, source + b * n) {

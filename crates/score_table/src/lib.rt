@@ -12,6 +12,7 @@ ghost use Rattle.score_table.specs.ScoreTable.{want_of};
 ghost use Rattle.score_table.specs.Calls.{grid_fits, call_fits, layer_fits, entries_fit, filled, gain_of, row_of_grid};
 
 use board::ChosenRow;
+use rows::Marks;
 
 // The number that stands for none.
 pub const NONE: u16 = 65535;
@@ -108,10 +109,15 @@ pub fn choose_row(
     let t = rows::target_row(want.predecessor, w, grid.givens, r, b);
     let best = best::best_row(grid, above, last, t, at, table, first)?;
     let row = rows::row_for(want, w, best.row);
-    let worth = rows::row_worth(want.predecessor, w, grid.givens, at, row);
+    let marks = Marks {
+        target: want.predecessor,
+        w,
+        lent: grid.givens,
+        at,
+    };
     Some(ChosenRow {
         row: best.row,
-        worth,
+        worth: marks.worth(row),
     })
 }
 
@@ -123,11 +129,16 @@ pub fn row_gain(w: usize, h: usize, r: usize, row: usize, givens: &[u8]) -> usiz
     if !grid_fits(false, w, h, givens) || h <= r {
         return 0;
     }
-    let at = r * w;
-    if !rows::row_kept(false, w, givens, at, row) {
+    let marks = Marks {
+        target: false,
+        w,
+        lent: givens,
+        at: r * w,
+    };
+    if !marks.kept(row) {
         return 0;
     }
-    rows::row_worth(false, w, givens, at, row) + 1
+    marks.worth(row) + 1
 }
 
 // Whether the givens are those of a grid of a width that fits how rows are held, and of at most 60 rows.

@@ -41,32 +41,13 @@ pub fn row_for(want: Want, w: usize, c: usize) -> usize
     if want.halves { whole_row(w, c) } else { c }
 }
 
-// The cells in columns j - 1, j and j + 1 of a row, as three digits.
+// The cells in columns j - 1, j and j + 1 of a row, as three digits. (A row and its width are two numbers: rows that are read together have one width,
+// and a struct of both would ask everywhere that theirs are equal.)
 fn window_at(w: usize, row: usize, j: usize) -> usize
     requires { (w ≤ max_mirror_width) × (row < 2 ^ w) × (j ≤ w + 1) }
     ensures { (result ≡ window w row j) × (result < 8) }
 {
     (4 * row >> (w + 1 - j)) % 8
-}
-
-// Column j of a over b, which has to become t: the digits that a and b give to its pattern, and before the nine the cell of t.
-fn column(w: usize, a: usize, b: usize, t: usize, j: usize) -> usize
-    requires { (w ≤ max_mirror_width) × (a < 2 ^ w) × (b < 2 ^ w) × (t < 2 ^ w) × (j ≤ w + 1) }
-    ensures { (result ≡ column_of w a b t j) × (result < 1024) }
-{
-    512 * (window_at(w, t, j) / 2 % 2) + 64 * window_at(w, a, j) + 8 * window_at(w, b, j)
-}
-
-// Columns 0 to w + 1: what the test of a column asks of a, b and t, once for all rows below them.
-pub fn columns(w: usize, a: usize, b: usize, t: usize) -> [usize; COLUMNS]
-    requires { (w ≤ max_mirror_width) × (a < 2 ^ w) × (b < 2 ^ w) × (t < 2 ^ w) }
-    ensures { Columns w a b t result }
-{
-    let mut r = [0; COLUMNS];
-    for j in 0..w + 2 {
-        r[j] = column(w, a, b, t, j);
-    }
-    r
 }
 
 // Whether with c below it the cell of b becomes that of t, by the column of both.
@@ -78,17 +59,49 @@ pub fn passes(next: &[u8; 512], w: usize, column: usize, c: usize, j: usize) -> 
     next[p % 512] == (p / 512) as u8
 }
 
-// Whether rows a, b, c step to row t in the middle, and the ring beside it stays dead; with t = b, whether they agree.
-pub fn steps_to(next: &[u8; 512], w: usize, a: usize, b: usize, c: usize, t: usize) -> bool
-    requires { (w ≤ max_mirror_width) × (a < 2 ^ w) × (b < 2 ^ w) × (c < 2 ^ w) × (t < 2 ^ w) }
-    ensures { result ≡ steps_to (entry_of next.now) w a b c t }
-{
-    for j in 0..w + 2 {
-        if !passes(next, w, column(w, a, b, t, j), c, j) {
-            return false;
-        }
+// Row a over row b, each of w cells, and the row t that b has to become.
+#[derive(Clone, Copy)]
+pub struct Above {
+    pub w: usize,
+    pub a: usize,
+    pub b: usize,
+    pub t: usize,
+    ghost rows: { (w ≤ max_mirror_width) × (a < 2 ^ w) × (b < 2 ^ w) × (t < 2 ^ w) },
+}
+
+impl Above {
+    // Column j: the digits that a and b give to its pattern, and before the nine the cell of t.
+    fn column(self, j: usize) -> usize
+        requires { j ≤ self.w + 1 }
+        ensures { (result ≡ column_of self.w self.a self.b self.t j) × (result < 1024) }
+    {
+        let cell = window_at(self.w, self.t, j) / 2 % 2;
+        512 * cell + 64 * window_at(self.w, self.a, j) + 8 * window_at(self.w, self.b, j)
     }
-    true
+
+    // Columns 0 to w + 1: what the test of a column asks of a, b and t, once for all rows below them.
+    pub fn columns(self) -> [usize; COLUMNS]
+        ensures { Columns self.w self.a self.b self.t result }
+    {
+        let mut columns = [0; COLUMNS];
+        for j in 0..self.w + 2 {
+            columns[j] = self.column(j);
+        }
+        columns
+    }
+
+    // Whether with c below them a and b step to t, and the ring beside it stays dead; with t = b, whether they agree.
+    pub fn steps_to(self, next: &[u8; 512], c: usize) -> bool
+        requires { c < 2 ^ self.w }
+        ensures { result ≡ steps_to (entry_of next.now) self.w self.a self.b c self.t }
+    {
+        for j in 0..self.w + 2 {
+            if !passes(next, self.w, self.column(j), c, j) {
+                return false;
+            }
+        }
+        true
+    }
 }
 
 // Whether a cell keeps its mark.
@@ -103,27 +116,6 @@ fn mark_kept(mark: u8, cell: usize) -> bool
     }
 }
 
-// The mark at a place: none where a target is lent.
-fn mark_at(target: bool, givens: &[u8], p: usize) -> u8
-    requires { p < length givens.now }
-    ensures { result ≡ get_or (marks_of target givens.now) p 0 }
-{
-    if target { 0 } else { givens[p] }
-}
-
-// Whether a row keeps the givens that start at a place of the grid, of which there are none where a target is lent.
-pub fn row_kept(target: bool, w: usize, givens: &[u8], at: usize, row: usize) -> bool
-    requires { (w ≤ max_mirror_width) × (at + w ≤ length givens.now) }
-    ensures { result ≡ row_kept w (marks_of target givens.now) at row }
-{
-    for k in 0..w {
-        if !mark_kept(mark_at(target, givens, at + k), (row >> (w - (k + 1))) % 2) {
-            return false;
-        }
-    }
-    true
-}
-
 // What a cell earns: a live cell counts unless it was given.
 #[tactic(auto, unfolding(crate::specs::Rows::cell_worth))]
 fn cell_worth(mark: u8, cell: usize) -> usize
@@ -135,16 +127,51 @@ fn cell_worth(mark: u8, cell: usize) -> usize
     }
 }
 
-// The worth of a row: its live cells that are free, by the givens that start at a place of the grid; where a target is lent all its live cells.
-pub fn row_worth(target: bool, w: usize, givens: &[u8], at: usize, row: usize) -> usize
-    requires { (w ≤ max_mirror_width) × (at + w ≤ length givens.now) }
-    ensures { (result ≡ row_worth w (marks_of target givens.now) at row) × (result ≤ w) }
-{
-    let mut n = 0;
-    for k in 0..w {
-        n += cell_worth(mark_at(target, givens, at + k), (row >> (w - (k + 1))) % 2);
+// The marks that a row goes by: the givens that start at a place of the grid; none where a target is lent in their place.
+#[derive(Clone, Copy)]
+pub struct Marks<'a> {
+    pub target: bool,
+    pub w: usize,
+    pub lent: &'a [u8],
+    pub at: usize,
+    ghost inside: { (w ≤ max_mirror_width) × (at + w ≤ length lent.now) },
+}
+
+impl Marks<'_> {
+    // The mark of the cell with k cells before it.
+    fn mark(self, k: usize) -> u8
+        requires { k < self.w }
+        ensures { result ≡ get_or (marks_of self.entry.target self.entry.lent.now) (self.entry.at + k) 0 }
+    {
+        if self.target {
+            0
+        } else {
+            self.lent[self.at + k]
+        }
     }
-    n
+
+    // Whether a row keeps them.
+    pub fn kept(self, row: usize) -> bool
+        ensures { result ≡ row_kept self.entry.w (marks_of self.entry.target self.entry.lent.now) self.entry.at row }
+    {
+        for k in 0..self.w {
+            if !mark_kept(self.mark(k), (row >> (self.w - (k + 1))) % 2) {
+                return false;
+            }
+        }
+        true
+    }
+
+    // The worth of a row: its live cells that are free; where a target is lent all its live cells.
+    pub fn worth(self, row: usize) -> usize
+        ensures { (result ≡ row_worth self.entry.w (marks_of self.entry.target self.entry.lent.now) self.entry.at row) × (result ≤ self.entry.w) }
+    {
+        let mut n = 0;
+        for k in 0..self.w {
+            n += cell_worth(self.mark(k), (row >> (self.w - (k + 1))) % 2);
+        }
+        n
+    }
 }
 
 // The row that row i, which is b, has to become: the target's; without a target b stays as it is.

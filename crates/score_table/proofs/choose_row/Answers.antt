@@ -65,10 +65,10 @@ row_for-row-requires c =
     let L = choice_lent c.args.grid.want _ _ _ _ _ _ _ c.args.grid.givens.now c.args.table.now c.fits.ensures c.if-not-fits.false c.if-grid-r.false c.row_digits-bits.ensures c.layer_fits.ensures c.if-not-layer_fits.false c.row_codes-n.ensures.0 c.if-n-above.false c.if-n-last.false in
     (L.width, c.best_row.ensures.row_lt _ c.in_ok-best.was)
 
-pub row_worth-worth-requires : goal.row_worth-worth-requires
-row_worth-worth-requires c =
+pub invariant_of-marks : goal.invariant_of-marks
+invariant_of-marks c =
     let L = choice_lent c.args.grid.want _ _ _ _ _ _ _ c.args.grid.givens.now c.args.table.now c.fits.ensures c.if-not-fits.false c.if-grid-r.false c.row_digits-bits.ensures c.layer_fits.ensures c.if-not-layer_fits.false c.row_codes-n.ensures.0 c.if-n-above.false c.if-n-last.false in
-    (L.wide, L.cells)
+    record { inside = (L.wide, L.cells) }
 
 pub returns-in_err-best : goal.returns-in_err-best
 returns-in_err-best c =
@@ -86,4 +86,4 @@ returns c =
     let becomes = c.target_row-t.ensures.0 ∙ ap (target_row g.want.predecessor g.width g.givens.now c.args.r) c.row_for-b.ensures.0 in
     let choice = found_row g.want _ _ _ _ _ _ _ _ _ _ _ (rw L.codes) becomes _ c.best_row.ensures L.inside in
     picks_row _ _ _ _ _ _ _ _ _ _ (sym c.fits.ensures ∙ c.if-not-fits.false) L.inside L.layer L.above_lt L.last_lt (sym (ap choice_of c.in_ok-best.was) ∙ choice)
-    (c.row_worth-worth.ensures.0 ∙ ap (row_worth g.width (marks_of g.want.predecessor g.givens.now) (c.args.r * g.width)) c.row_for-row.ensures.0)
+    (c.worth.ensures.0 ∙ ap (row_worth g.width (marks_of g.want.predecessor g.givens.now) (c.args.r * g.width)) c.row_for-row.ensures.0)

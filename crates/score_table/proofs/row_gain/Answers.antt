@@ -13,25 +13,23 @@ returns-then-not-grid_fits c =
       | then-not-grid_fits-via-else-not-grid_fits+then-h-r w ↦ gain_past _ _ _ _ _ (sym c.grid_fits.ensures ∙ w.if-not-grid_fits.false) w.if-h-r.true
     ]
 
-pub overflow_mul-at : goal.overflow_mul-at
-overflow_mul-at c = omega (arith, gain_small _ _ _ c.args.row _ (sym c.grid_fits.ensures ∙ c.if-not-grid_fits.false) c.if-h-r.false)
+pub overflow_mul-marks : goal.overflow_mul-marks
+overflow_mul-marks c = omega (arith, gain_small _ _ _ c.args.row _ (sym c.grid_fits.ensures ∙ c.if-not-grid_fits.false) c.if-h-r.false)
 
-pub row_kept-requires : goal.row_kept-requires
-row_kept-requires c = gain_room _ _ _ c.args.row _ (sym c.grid_fits.ensures ∙ c.if-not-grid_fits.false) c.if-h-r.false
+pub invariant_of-marks : goal.invariant_of-marks
+invariant_of-marks c =
+    record { inside = gain_room _ _ _ c.args.row _ (sym c.grid_fits.ensures ∙ c.if-not-grid_fits.false) c.if-h-r.false }
 
-pub returns-then-not-row_kept : goal.returns-then-not-row_kept
-returns-then-not-row_kept c =
-    gain_lost _ _ _ _ _ (sym c.grid_fits.ensures ∙ c.if-not-grid_fits.false) c.if-h-r.false (sym c.row_kept.ensures ∙ c.if-not-row_kept.true)
-
-pub row_worth-requires : goal.row_worth-requires
-row_worth-requires c = gain_room _ _ _ c.args.row _ (sym c.grid_fits.ensures ∙ c.if-not-grid_fits.false) c.if-h-r.false
+pub returns-then-not-kept : goal.returns-then-not-kept
+returns-then-not-kept c =
+    gain_lost _ _ _ _ _ (sym c.grid_fits.ensures ∙ c.if-not-grid_fits.false) c.if-h-r.false (sym c.kept.ensures ∙ c.if-not-kept.true)
 
 pub overflow_add-result : goal.overflow_add-result
 overflow_add-result c =
     let room = gain_room _ _ _ c.args.row _ (sym c.grid_fits.ensures ∙ c.if-not-grid_fits.false) c.if-h-r.false in
-    omega (arith, room.0, c.row_worth.ensures.1)
+    omega (arith, room.0, c.worth.ensures.1)
 
 pub returns : goal.returns
 returns c =
-    rw c.row_worth.ensures.0
-    (gain_kept _ _ _ _ _ (sym c.grid_fits.ensures ∙ c.if-not-grid_fits.false) c.if-h-r.false (sym c.row_kept.ensures ∙ c.if-not-row_kept.false))
+    rw c.worth.ensures.0
+    (gain_kept _ _ _ _ _ (sym c.grid_fits.ensures ∙ c.if-not-grid_fits.false) c.if-h-r.false (sym c.kept.ensures ∙ c.if-not-kept.false))

@@ -14,7 +14,7 @@ load-requires c =
     omega (arith, r.2, mul-le-mul_right c.args.rows.n r.1)
 
 pub loop-j-init : goal.loop-j-init
-loop-j-init c = let n = c.args.rows.number in λ next K. loaded_holds _ _ _ _ _ n.0 n.1 c.args.v.now.lengths.0 c.load.ensures next
+loop-j-init c = let n = c.args.rows.number in λ next K. loaded_holds _ _ _ _ _ n.0 n.1 (omega arith) c.load.ensures next
 
 pub loop-j-preserved : goal.loop-j-preserved
 loop-j-preserved c =

@@ -10,4 +10,4 @@ invariant-loop-j l =
     (next : ℕ → ℕ) → Keeps next l.rows.keep.now
     → VectorHolds next l.rows.w l.b
     (λ x. start_number l.rows.limit l.rows.w (λ c. get_or l.rows.worth.now c 0) (λ c. get_or l.table (l.source + l.b * l.rows.n + x * 2 ^ l.rows.w + c) 0)) l.j
-    (front l.j l.v.even l.v.odd)
+    (front l.j l.even l.odd)

@@ -44,7 +44,7 @@ rows-preserved c =
     let columns = columns_taken _ _ _ _ _ (rw (c.row_for.ensures.0, c.row_for-2.ensures.0) at c.columns-columns.ensures) in
     let all : c.loop-j.j ≡ g.width + 2 = omega (arith, length-take (g.width + 2) c.columns-columns.result, width_le _ _ p.0) in
     let none = sym (rw (all, c.row_for-row.ensures.0) at c.loop-j.invariant.1) in
-    let next = rw (c.offer.ensures, c.row_for-row.ensures.0, c.loop-j.invariant.0) at c.consider-held.ensures in
+    let next = rw (c.offer-offered.ensures, c.row_for-row.ensures.0, c.loop-j.invariant.0) at c.consider-held.ensures in
     rw c.loop-j.invariant.0 (omega arith, held_next_at _ _ _ _ _ _ _ _ _ p.0 p.1 p.2 p.3 _ columns (omega arith) c.rows.invariant.1 _ _ none refl next)
 
 pub returns : goal.returns

@@ -1,6 +1,6 @@
--- `score_table::rows::columns` meets its contract, column by column.
+-- `score_table::rows::Above::columns` meets its contract, column by column.
 -- Assumes nothing.
-use Rattle.score_table.proofs.rows.columns.Goals as goal
+use Rattle.score_table.proofs.rows.Above.columns.Goals as goal
 use native.Mathlib.Omega.{arith}
 
 pub returns : goal.returns

@@ -1,0 +1,10 @@
+-- `score_table::rows::Marks::worth` meets its contract. The loop's invariant: the sum of what the cells passed earn.
+-- Assumes nothing.
+use Rattle.std.specs.Prelude.{◌≡◌, ◌+◌, ◌≤◌, get_or}
+use Rattle.board.specs.Sums.{total}
+use Rattle.life.specs.Rows.{digit_in}
+use Rattle.score_table.specs.Rows.{cell_worth, marks_of}
+use Rattle.score_table.proofs.rows.Marks.worth.Given as goal
+
+abbrev pub invariant-loop-k : goal.invariant-loop-k
+invariant-loop-k l = (l.n ≡ total (λ i. cell_worth (get_or (marks_of l.self.target l.self.lent.now) (l.self.at + i) 0) (digit_in l.self.w l.row (i + 1))) l.k) × (l.n ≤ l.k)
