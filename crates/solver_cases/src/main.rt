@@ -3,38 +3,44 @@
 // Prints what was tried. Crate mirror_cases has the jobs of mirror boards, and predecessor_cases the predecessor jobs.
 #![tactic(auto)]
 
-mod calls;
 mod edge_threes;
-mod forged;
 mod grids;
 mod limits;
-mod marks;
-mod memory;
 mod numbers;
-mod pieces;
-mod plain;
-mod random;
-mod rules;
-mod sizes;
-mod unit;
 
 use job_kind::Kind;
+use trials::{Rules, forged};
 
 fn main() {
     grids::try_all();
-    grids::try_rules();
-    edge_threes::try_lines(b"every grid of 1 by 9 and 9 by 1: ", 0);
-    edge_threes::try_lines(b"the same under pseudo-random rules: ", 5);
-    edge_threes::try_random(b"pseudo-random grids up to 4 by 4, a third live: ", 0);
-    edge_threes::try_random(b"the same under pseudo-random rules: ", 5);
-    forged::try_jobs(b"forged jobs: ", Kind::Ordinary, 0);
-    forged::try_jobs(b"forged jobs under other rules: ", Kind::Ordinary, 5);
-    forged::try_jobs(b"forged jobs of two layers: ", Kind::TwoLayers, 0);
-    forged::try_jobs(
+    edge_threes::try_all();
+    try_forged(b"forged jobs: ", Kind::Ordinary, Rules::Conway);
+    try_forged(
+        b"forged jobs under other rules: ",
+        Kind::Ordinary,
+        Rules::Random,
+    );
+    try_forged(b"forged jobs of two layers: ", Kind::TwoLayers, Rules::Conway);
+    try_forged(
         b"forged jobs of two layers under other rules: ",
         Kind::TwoLayers,
-        5,
+        Rules::Random,
     );
     numbers::try_all();
     limits::try_all();
+}
+
+fn try_forged(name: &[u8], kind: Kind, rules: Rules) {
+    let t = forged::try_jobs(kind, rules, 6000);
+    report::line(name, 6000);
+    report::line(b"  resumed before row 1, filling: ", t.filling);
+    report::line(b"  resumed after a row, filling again: ", t.again);
+    report::line(b"  resumed at a row to be chosen: ", t.choosing);
+    report::line(b"  resumed at the end: ", t.ended);
+    report::line(b"  over an edge three: ", t.edges);
+    report::line(b"  working calls: ", t.calls);
+    report::line(b"  refused for a spoiled table: ", t.spoiled);
+    report::line(b"  finished: ", t.finished);
+    report::line(b"  none: ", t.none);
+    report::line(b"  differences from a plain unit: ", t.wrong);
 }

@@ -1,0 +1,66 @@
+// Cases run by jobs of their kind: each in one run, and again in pieces.
+ghost use Rattle.std.specs.Prelude.{◌≤◌};
+
+use crate::calls::{After, Lent};
+use crate::memory::Memory;
+use crate::plain::Best;
+use crate::{Case, calls, pieces};
+
+// What was tried.
+#[derive(Clone, Copy, Default)]
+pub struct Runs {
+    pub jobs: usize,
+    pub wrong: usize,
+    // In pieces: working calls that passed, calls refused, those of them over an edge three and over altered marks, resumptions as the other kinds, differences.
+    pub calls: usize,
+    pub refused: usize,
+    pub edges: usize,
+    pub altered: usize,
+    pub others: usize,
+    pub unlike: usize,
+}
+
+// Runs a case and holds it to what enumeration finds: over leftovers, and in pieces over others. No count goes down. The answer of the first run and the
+// memory that it left, or none where opening is refused.
+pub fn try_case(case: &Case, best: Option<Best>, runs: &mut Runs) -> Option<After>
+    ensures { (runs.old.jobs ≤ runs.new.jobs) × (runs.old.wrong ≤ runs.new.wrong) × (runs.old.unlike ≤ runs.new.unlike) }
+{
+    runs.jobs = runs.jobs.saturating_add(1);
+    let Ok(job) = case.open() else {
+        runs.wrong = runs.wrong.saturating_add(case.differs(b"the opening"));
+        return None;
+    };
+    let r = calls::work(case, job, Lent::exact(case.size), Memory::spoiled(case), u32::MAX);
+    if let Some(what) = difference(case, best, &r) {
+        runs.wrong = runs.wrong.saturating_add(case.differs(what));
+    }
+    let again = Case {
+        seed: case.seed.wrapping_add(5000000),
+        ..*case
+    };
+    let p = pieces::run(&again, best, job, &r.memory);
+    runs.calls = runs.calls.saturating_add(p.calls);
+    runs.refused = runs.refused.saturating_add(p.refused);
+    runs.edges = runs.edges.saturating_add(p.edges);
+    runs.altered = runs.altered.saturating_add(p.altered);
+    runs.others = runs.others.saturating_add(p.others);
+    runs.unlike = runs.unlike.saturating_add(p.wrong);
+    Some(r)
+}
+
+// What differs where a run answered anything else than enumeration found, left another board, or wrote anything but what it needs.
+fn difference(case: &Case, best: Option<Best>, r: &After) -> Option<&'static [u8]> {
+    let s = case.size;
+    if r.status != Ok(calls::end_of(best)) || r.job.units != calls::length(s, best) {
+        return Some(b"the answer, or the units");
+    }
+    if let Some(b) = best {
+        if !r.memory.is_board(s.cells, b.board) {
+            return Some(b"the board");
+        }
+    }
+    if !r.memory.is_kept(case, calls::written(s, best)) {
+        return Some(b"memory past the table or the board, or a board for none");
+    }
+    None
+}
