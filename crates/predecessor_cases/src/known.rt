@@ -1,8 +1,9 @@
 // Targets under Conway's rule with known answers.
-use crate::sizes::Size;
+use crate::two_pieces;
 use crate::two_pieces::Ended;
-use crate::{calls, cells, plain, sizes, two_pieces};
-use job::{Job, JobResult, Stage};
+use job::Stage;
+use job_kind::Kind;
+use trials::{Case, Size, plain};
 
 // The entries of 5 by 5.
 const ENTRIES: usize = 5120;
@@ -36,52 +37,37 @@ fn dead_targets() {
 
 // The target whose cells are the digits of a number.
 fn try_target(name: &[u8], w: usize, h: usize, number: usize) {
-    let s = sizes::sized(w, h);
-    let target = cells::of_number(s, number);
-    report::text(name);
-    match calls::open(rule::conway(), s, &target) {
-        JobResult::Ready(job) => run(s, job, &target),
-        JobResult::Refused(r) => report::refusal(r),
-    }
-}
-
-fn run(s: Size, job: Job, target: &[u8]) {
+    let size = Size::new(Kind::Predecessor, w, h);
+    let case = Case::of_number(rule::conway(), size, 0, number);
     let mut table = [7u16; ENTRIES];
-    print(s, target, two_pieces::run(s, job, target, &mut table));
+    report::text(name);
+    match two_pieces::run(&case, &mut table) {
+        Ok(ended) => print(&case, &ended),
+        Err(r) => report::refusal(r),
+    }
 }
 
 // The answer, the rows, and the units.
-fn print(s: Size, target: &[u8], x: Ended) {
-    let job = x.job;
-    let board = x.board;
-    let stage = job.stage;
-    match stage {
-        Stage::Finished {
-            above: _,
-            last: _,
-            score,
-        } => print_board(s, score, target, &board),
+fn print(case: &Case, x: &Ended) {
+    match x.job.stage {
+        Stage::Finished { score, .. } => print_board(case, score, &x.board),
         Stage::Infeasible => report::text(b": none"),
         _ => report::text(b": not ended"),
     }
-    report::line(b", units ", job.units);
+    report::line(b", units ", x.job.units);
 }
 
-fn print_board(s: Size, score: usize, target: &[u8], board: &[u8]) {
+// A byte of 2 or more counts as what it is, so that it shows in its row's number.
+fn print_board(case: &Case, score: usize, board: &[u8]) {
+    let s = case.size;
     report::text(b": live ");
     report::number(score);
     report::text(b", rows");
-    print_rows(s, board);
-    if !plain::is_before(rule::conway(), s.w, s.h, board, target) {
-        report::text(b", which step to another board");
-    }
-}
-
-// A byte of 2 or more counts as what it is, so that it shows in the number.
-fn print_rows(s: Size, board: &[u8]) {
-    let end = s.h;
-    for r in 0..end {
+    for r in 0..s.h {
         report::text(b" ");
-        report::number(cells::number_of(board, sizes::times(r, s.w), s.w));
+        report::number(plain::number_of(board, r.wrapping_mul(s.w), s.w));
+    }
+    if plain::first_unlike(case.rule, s.w, s.h, board, &case.givens).is_some() {
+        report::text(b", which step to another board");
     }
 }
