@@ -25,27 +25,35 @@ pub struct Runs {
 pub fn try_case(case: &Case, best: Option<Best>, runs: &mut Runs) -> Option<After>
     ensures { (runs.old.jobs ≤ runs.new.jobs) × (runs.old.wrong ≤ runs.new.wrong) × (runs.old.unlike ≤ runs.new.unlike) }
 {
-    runs.jobs = runs.jobs.saturating_add(1);
+    add(&mut runs.jobs, 1);
     let Ok(job) = case.open() else {
-        runs.wrong = runs.wrong.saturating_add(case.differs(b"the opening"));
+        add(&mut runs.wrong, case.differs(b"the opening"));
         return None;
     };
     let r = calls::work(case, job, Lent::exact(case.size), Memory::spoiled(case), u32::MAX);
-    if let Some(what) = difference(case, best, &r) {
-        runs.wrong = runs.wrong.saturating_add(case.differs(what));
-    }
+    let wrong = match difference(case, best, &r) {
+        Some(what) => case.differs(what),
+        None => 0,
+    };
+    add(&mut runs.wrong, wrong);
     let again = Case {
         seed: case.seed.wrapping_add(5000000),
         ..*case
     };
     let p = pieces::run(&again, best, job, &r.memory);
-    runs.calls = runs.calls.saturating_add(p.calls);
-    runs.refused = runs.refused.saturating_add(p.refused);
-    runs.edges = runs.edges.saturating_add(p.edges);
-    runs.altered = runs.altered.saturating_add(p.altered);
-    runs.others = runs.others.saturating_add(p.others);
-    runs.unlike = runs.unlike.saturating_add(p.wrong);
+    add(&mut runs.calls, p.calls);
+    add(&mut runs.refused, p.refused);
+    add(&mut runs.edges, p.edges);
+    add(&mut runs.altered, p.altered);
+    add(&mut runs.others, p.others);
+    add(&mut runs.unlike, p.wrong);
     Some(r)
+}
+
+fn add(n: &mut usize, more: usize)
+    ensures { n.old ≤ n.new }
+{
+    *n = n.saturating_add(more);
 }
 
 // What differs where a run answered anything else than enumeration found, left another board, or wrote anything but what it needs.

@@ -56,8 +56,7 @@ pub fn inverse(t: Turn) -> Turn {
 // Turned by an exchange and quarter turns, one after the other.
 pub fn by_steps(t: Turn, a: Cells) -> Cells {
     let mut next = if t.reflected { exchanged(a) } else { a };
-    let end = t.quarters;
-    for _ in 0..end {
+    for _ in 0..t.quarters {
         next = quarter(next);
     }
     next
@@ -117,8 +116,7 @@ fn place_after(t: Turn, w: usize, h: usize, k: usize) -> usize {
     let c = if t.reflected { right } else { left };
     let opposite = if t.reflected { left } else { right };
     let below = cells::from_end(h, r);
-    let quarters = t.quarters;
-    match quarters {
+    match t.quarters {
         0 => cells::place(w, r, c),
         1 => cells::place(h, c, below),
         2 => cells::place(w, below, opposite),
