@@ -248,10 +248,7 @@ pub fn byte_at(bytes: &[u8], w: usize, h: usize, r: usize, c: usize) -> u8
 fn is_among(limit: usize, i: usize) -> bool
     ensures { result ≡ among limit i }
 {
-    if i < 1 {
-        return false;
-    }
-    i <= limit
+    (1..=limit).contains(&i)
 }
 
 // The first byte above a limit.

@@ -2,7 +2,7 @@
 // is born, so no still board keeps them, and a job turns such a grid away.
 #![tactic(auto)]
 
-ghost use Rattle.std.specs.Prelude.{◌≡◌, ◌&&◌, ◌+◌, ◌<◌, length};
+ghost use Rattle.std.specs.Prelude.{◌≡◌, ◌&&◌, ◌<◌, ◌≤◌, length};
 ghost use Rattle.board.specs.Answers.{check_says};
 ghost use Rattle.edges.specs.Edges.{given_live_at, at_edge, edge_three, edge_check};
 
@@ -10,6 +10,7 @@ use board::Refusal;
 use rule::Rule;
 
 // 14: under a rule with birth on 3, no cell is the middle of an edge three. The place is the first such cell's.
+#[tactic(auto, unfolding(crate::specs::Edges::edge_check), using(board::proofs::Search::none_steps, crate::proofs::Edges::middle_none))]
 pub fn check(rule: Rule, w: usize, h: usize, givens: &[u8]) -> Result<(), Refusal>
     ensures { check_says result ≡ edge_check rule w h givens.now }
 {
@@ -20,25 +21,22 @@ pub fn check(rule: Rule, w: usize, h: usize, givens: &[u8]) -> Result<(), Refusa
         return Ok(());
     }
     for place in 0..givens.len() {
-        if is_edge_three(w, h, givens, place / w, place % w) {
+        if is_edge_three(w, h, givens, place / w + 1, place % w + 1) {
             return Err(Refusal::EdgeThree(place));
         }
     }
     Ok(())
 }
 
-// Whether the cell with r rows above it and c columns before it is the middle of an edge three.
+// Whether the cell in row r and column c, both from 1, is the middle of an edge three.
+#[tactic(auto, unfolding(crate::specs::Edges::edge_three))]
 fn is_edge_three(w: usize, h: usize, givens: &[u8], r: usize, c: usize) -> bool
-    requires { (r < length givens.now) × (c < length givens.now) }
-    ensures { result ≡ edge_three w h givens.now (r + 1) (c + 1) }
+    requires { (0 < r) × (r ≤ length givens.now) × (0 < c) × (c ≤ length givens.now) }
+    ensures { result ≡ edge_three w h givens.now r c }
 {
-    if are_along(w, h, givens, h, r + 1, r + 1, c, r + 1, c + 2) {
-        return is_given_live(w, h, givens, r + 1, c + 1);
-    }
-    if are_along(w, h, givens, w, c + 1, r, c + 1, r + 2, c + 1) {
-        return is_given_live(w, h, givens, r + 1, c + 1);
-    }
-    false
+    (are_along(w, h, givens, h, r, r, c - 1, r, c + 1)
+        || are_along(w, h, givens, w, c, r - 1, c, r + 1, c))
+        && is_given_live(w, h, givens, r, c)
 }
 
 // Whether row or column i of n is an edge and two cells, in rows r and r2 and columns c and c2, are given live.
@@ -55,26 +53,18 @@ fn are_along(
 ) -> bool
     ensures { result ≡ (at_edge n i && given_live_at w h givens.now r c && given_live_at w h givens.now r2 c2) }
 {
-    if !is_edge(n, i) {
-        return false;
-    }
-    if !is_given_live(w, h, givens, r, c) {
-        return false;
-    }
-    is_given_live(w, h, givens, r2, c2)
+    is_edge(n, i) && is_given_live(w, h, givens, r, c) && is_given_live(w, h, givens, r2, c2)
 }
 
 // Whether row or column i is the first or the last of n.
 fn is_edge(n: usize, i: usize) -> bool
     ensures { result ≡ at_edge n i }
 {
-    if i == 1 {
-        return true;
-    }
-    i == n
+    i == 1 || i == n
 }
 
 // Whether the cell in row r and column c, both from 1, is given live. No cell outside the grid is, and none past the givens.
+#[tactic(auto, unfolding(crate::specs::Edges::given_live_at))]
 fn is_given_live(w: usize, h: usize, givens: &[u8], r: usize, c: usize) -> bool
     ensures { result ≡ given_live_at w h givens.now r c }
 {

@@ -1,7 +1,8 @@
 -- What the tests of ten numbers show one after the other, and that the job of ten numbers that fit has those numbers.
 -- Assumes nothing.
-use mathlib.Core.Path.{◌≡◌, refl, ◌∙◌, ap}
-use mathlib.Core.Bool.{Bool, true, false, not, ◌&&◌}
+use mathlib.Core.Path.{◌≡◌, refl, sym, ◌∙◌, ap}
+use Rattle.std.specs.Prelude.{Result, Ok, Err, is_err}
+use mathlib.Core.Bool.{Bool, true, false, not, ◌&&◌, true≢false}
 use mathlib.Core.List.{List}
 use Prim.Native.Nat.{ℕ, ◌+◌, ◌*◌, ◌/◌, ◌^◌, ◌≤◌, ◌<◌}
 use native.Mathlib.Nat.{div-eq_of_lt, lt-div-mul-add}
@@ -9,7 +10,8 @@ use native.Mathlib.Omega.{arith}
 use native.Mathlib.Decide.{dec_lt}
 use lib.Pow.{pow_pos}
 use Rattle.board.proofs.Tests.{and_true}
-use Rattle.board.specs.Answers.{refuses, refuse_unless, ◌then◌}
+use Rattle.board.specs.Answers.{refuses, refuse_unless, ◌then◌, check_says}
+use Rattle.board.specs.declared.Refusal.{Refusal}
 use Rattle.board.specs.Boards.{max_height, among, is_width}
 use Rattle.board.specs.Checks.{size_check}
 use Rattle.elimination.specs.Task.{is_fill}
@@ -23,10 +25,10 @@ use Rattle.job.specs.Jobs.{checkpoint_fits, numbers_of, stage_fits, job_fits, st
 use Rattle.job_kind.specs.declared.Kind.{Kind}
 use Rattle.job.specs.declared.Checkpoint.{Checkpoint}
 use Rattle.job_kind.proofs.Shapes.{shape_lawful, shape_rounds}
-use Rattle.job.proofs.Fits.{NumbersFit, numbers_at, heard}
+use Rattle.job.proofs.Fits.{Frame, NumbersFit, frame_of, numbers_at, heard}
 
 -- ---- the size and the rule
-pub frame_misfits : (kind : Kind) (rule : Rule) (w h : ℕ) {n : ℕ} {vs : List ℕ} → grid_check (halves_of kind) rule w h ≡ refuses n vs → is_width (halves_of kind) w && among max_height h && rule_fits rule ≡ false
+frame_misfits : (kind : Kind) (rule : Rule) (w h : ℕ) {n : ℕ} {vs : List ℕ} → grid_check (halves_of kind) rule w h ≡ refuses n vs → is_width (halves_of kind) w && among max_height h && rule_fits rule ≡ false
 unfolding grid_check size_check rule_check
 frame_misfits kind rule w h {n} {vs} e = go (is_width (halves_of kind) w) (among max_height h) (rule_fits rule) e
   where
@@ -35,6 +37,17 @@ frame_misfits kind rule w h {n} {vs} e = go (is_width (halves_of kind) w) (among
     go true true false q = refl
     go true false u q = refl
     go false t u q = refl
+
+-- the check of both, by whether it is an error
+pub turned_misfits : (kind : Kind) (rule : Rule) (w h : ℕ) (k : Result Unit Refusal) → check_says k ≡ grid_check (halves_of kind) rule w h → is_err k ≡ true
+    → is_width (halves_of kind) w && among max_height h && rule_fits rule ≡ false
+turned_misfits kind rule w h (Ok u) e t = absurd (true≢false (sym t))
+turned_misfits kind rule w h (Err r) e t = frame_misfits kind rule w h (sym e)
+
+pub passed_frame : (kind : Kind) (rule : Rule) (w h : ℕ) (k : Result Unit Refusal) → check_says k ≡ grid_check (halves_of kind) rule w h → is_err k ≡ false
+    → Frame kind rule w h
+passed_frame kind rule w h (Ok u) e t = frame_of kind rule w h (sym e)
+passed_frame kind rule w h (Err r) e t = absurd (true≢false t)
 
 -- ---- the rows
 -- a shift by the width leaves nothing of a row, and something of any greater number

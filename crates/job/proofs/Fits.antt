@@ -3,6 +3,7 @@
 use mathlib.Core.Path.{◌≡◌, refl, sym, ◌∙◌, ap, ap₂}
 use mathlib.Core.Bool.{Bool, true, false, ◌&&◌}
 use mathlib.Core.List.{List, []}
+use Rattle.std.specs.Prelude.{Result, Ok, Err}
 use Prim.Native.Nat.{ℕ}
 use native.Mathlib.Omega.{arith}
 use borrow.Author.Tests.{not-true, eq-eqb, eqb-true, le-leb, leb-true}
@@ -11,6 +12,7 @@ use lib.ListN.{get_or}
 use lib.Pow.{pow_pos}
 use Rattle.board.specs.Answers.{Answer, gives, passed, refuses, refuse_unless, ◌then◌}
 use Rattle.board.specs.Boards.{max_height, among, width_fits, is_width, SizedBy}
+use Rattle.board.specs.declared.Refusal.{Refusal}
 use Rattle.board.proofs.Answers.{refuses_none, then_gives, unless_gives}
 use Rattle.board.proofs.Widths.{width_of, width_fits_lem}
 use Rattle.board.proofs.Tests.{and_left, and_right, and_true, among_yes, among_in}
@@ -28,7 +30,6 @@ use Rattle.job_kind.specs.declared.Kind.{Kind}
 use Rattle.job.specs.declared.Stage.{Stage}
 use Rattle.job.specs.declared.Job.{Job}
 use Rattle.job.specs.declared.Checkpoint.{Checkpoint}
-use Rattle.job.specs.declared.JobResult.{JobResult}
 use Rattle.job_kind.proofs.Shapes.{number_tells, shape_lawful, shorter, fills_first}
 use Rattle.job_kind.proofs.ReadChecks.{read_passed}
 
@@ -177,9 +178,9 @@ round_trip j p t kind r P e R = (λ (k : kind ≡ j.kind). same k r R.says R.job
     q : (job_fits j ≡ true) × (t ≡ numbers_of j)
     q = paused_numbers j t (sym P.says ∙ ap paused_says e)
 
-    same : kind ≡ j.kind → (r : JobResult) → job_result_says r ≡ resume_rule kind t → ((i : Job) → r ≡ JobResult.Ready i → i ≡ job_of kind t) → r ≡ JobResult.Ready j
-    same k (JobResult.Ready i) s f = ap JobResult.Ready (f i refl ∙ ap₂ job_of k q.1 ∙ job_back j q.0)
-    same k (JobResult.Refused x) s f =
+    same : kind ≡ j.kind → (r : Result Job Refusal) → job_result_says r ≡ resume_rule kind t → ((i : Job) → r ≡ Ok i → i ≡ job_of kind t) → r ≡ Ok j
+    same k (Ok i) s f = ap Ok (f i refl ∙ ap₂ job_of k q.1 ∙ job_back j q.0)
+    same k (Err x) s f =
         let fits : checkpoint_fits kind t ≡ true = rw (k, q.1) (fits_numbers j q.0) in
         absurd (refuses_none (rw fits at s))
 

@@ -9,6 +9,7 @@ use native.Mathlib.Numerals.{add-one}
 use native.Mathlib.Omega.{arith}
 use borrow.Author.Tests.{lt-ltb, le-ltb, le-leb, ltb-true, leb-true, eqb-true, eq-eqb, ne_eqb}
 use lib.Dec.{eqb, leb, ltb}
+use Rattle.board.specs.declared.ChosenRow.{ChosenRow}
 use Rattle.board.specs.Boards.{max_height, width_fits, Width}
 use Rattle.board.proofs.Widths.{width_of, width_fits_lem}
 use Rattle.board.proofs.Tests.{and_left, and_right}
@@ -24,7 +25,6 @@ use Rattle.job_kind.specs.declared.Kind.{Kind}
 use Rattle.job.specs.declared.shape.Round.{Round}
 use Rattle.job.specs.declared.Stage.{Stage}
 use Rattle.job.specs.declared.Job.{Job}
-use Rattle.job.specs.declared.Chosen.{Chosen}
 use Rattle.job_kind.proofs.Shapes.{length_le, row_early}
 use Rattle.job.proofs.Rounds.{fills_entry, fills_on, chooses_row, rows_spent}
 use Rattle.job.proofs.Fits.{job_at, numbers_at, fits_numbers, fits_frame, job_back}
@@ -94,15 +94,15 @@ module _ (j : Job) where
   due_by a b m l = due_while (runs_by a b m) ∙ rw (lt-ltb j.units long l)
 
   -- ---- the job after its task
-  after_task_lem : {o : Option Task} → task_due j ≡ o → (chosen : Chosen) → after_unit j chosen ≡ after_task o j chosen
+  after_task_lem : {o : Option Task} → task_due j ≡ o → (chosen : Option ChosenRow) → after_unit j chosen ≡ after_task o j chosen
   unfolding after_unit
   after_task_lem e chosen = ap (λ (o : Option Task). after_task o j chosen) e
 
-  pub after_never : runs_within j ≡ false → (chosen : Chosen) → j ≡ after_unit j chosen
+  pub after_never : runs_within j ≡ false → (chosen : Option ChosenRow) → j ≡ after_unit j chosen
   after_never e chosen = sym (after_task_lem (due_never e) chosen)
 
   -- by its round
-  module _ (e : runs_within j ≡ true) {x : Round} (R : RoundIs j.kind j.width j.height j.units x) (chosen : Chosen) where
+  module _ (e : runs_within j ≡ true) {x : Round} (R : RoundIs j.kind j.width j.height j.units x) (chosen : Option ChosenRow) where
     pub after_fills_lem : (x.left ≡ 0 → ⊥) → job_with j (after_entries 1 (numbers_in (numbers_of j))) ≡ after_unit j chosen
     after_fills_lem f =
         let F = fills_entry R f in
@@ -167,11 +167,11 @@ module _ (j : Job) where
   rows_early R f l = let F = chooses_row R f l in row_early j.kind j.width j.height F.0 F.1
 
 -- where no row can be chosen the job ends at row 1, and stands at a later row
-pub ends_first : (S : Shape) (r : ℕ) (j : Job) → r ≡ 0 → job_with j (after_none (numbers_in (numbers_of j))) ≡ after_choice S r j Chosen.Nothing
+pub ends_first : (S : Shape) (r : ℕ) (j : Job) → r ≡ 0 → job_with j (after_none (numbers_in (numbers_of j))) ≡ after_choice S r j None
 ends_first S zero j e = refl
 ends_first S (suc r) j e = absurd (omega arith)
 
-pub stands_later : (S : Shape) (r : ℕ) (j : Job) → (r ≡ 0 → ⊥) → j ≡ after_choice S r j Chosen.Nothing
+pub stands_later : (S : Shape) (r : ℕ) (j : Job) → (r ≡ 0 → ⊥) → j ≡ after_choice S r j None
 stands_later S zero j n = absurd (n refl)
 stands_later S (suc r) j n = refl
 
@@ -219,14 +219,14 @@ module _ (j : Job) (f : job_fits j ≡ true) where
 
   -- ---- the job after its unit
   module _ (m : mark_of j.stage ≡ 0) where
-    after_due : {o : Task} → (shape_of j.kind j.width j.height).plan j.units ≡ o → (chosen : Chosen) → after_unit j chosen ≡ after_task (Some o) j chosen
+    after_due : {o : Task} → (shape_of j.kind j.width j.height).plan j.units ≡ o → (chosen : Option ChosenRow) → after_unit j chosen ≡ after_task (Some o) j chosen
     after_due p chosen = after_task_lem j (due_running m ∙ ap Some p) chosen
 
     pub after_row_lem : {r source : ℕ} → (shape_of j.kind j.width j.height).plan j.units ≡ row r source → (c x : ℕ) → c < 2 ^ kind_digits j.kind j.width → x ≤ j.width
-        → after_unit j (Chosen.Row c x) ≡ job_with j (after_row j.height r c (x + live_of j.stage) (numbers_in (numbers_of j)))
+        → after_unit j (Some (record { row = c; worth = x })) ≡ job_with j (after_row j.height r c (x + live_of j.stage) (numbers_in (numbers_of j)))
     after_row_lem p c x l b =
-        after_due p (Chosen.Row c x) ∙ rw (lt-ltb c (2 ^ kind_digits j.kind j.width) l, le-leb x j.width b, le-leb (live_of j.stage) (j.width * j.height) fits_live)
+        after_due p (Some (record { row = c; worth = x })) ∙ rw (lt-ltb c (2 ^ kind_digits j.kind j.width) l, le-leb x j.width b, le-leb (live_of j.stage) (j.width * j.height) fits_live)
 
     pub after_none_lem : {source : ℕ} → (shape_of j.kind j.width j.height).plan j.units ≡ row 0 source
-        → after_unit j Chosen.Nothing ≡ job_with j (after_none (numbers_in (numbers_of j)))
-    after_none_lem p = after_due p Chosen.Nothing
+        → after_unit j None ≡ job_with j (after_none (numbers_in (numbers_of j)))
+    after_none_lem p = after_due p None

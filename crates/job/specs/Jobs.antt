@@ -2,10 +2,12 @@
 -- resuming, and the job after a unit. `Checkpoint` is the paper's seven numbers, the two of the rule and that of the kind, and the stage `Infeasible` its
 -- none.
 -- Assumes nothing.
-use Rattle.std.specs.Prelude.{Bool, true, cond, not, ◌&&◌, List, [], ◌∷◌, ℕ, zero, suc, ◌+◌, ◌*◌, eqb, leb, ltb, Option, None, Some}
-use Rattle.board.specs.Answers.{Answer, gives, refusal_says, ◌then◌, refuse_unless}
+use Rattle.std.specs.Prelude.{Bool, true, cond, not, ◌&&◌, List, [], ◌∷◌, ℕ, zero, suc, ◌+◌, ◌*◌, eqb, leb, ltb, Option, None, Some, Result}
+use Rattle.board.specs.Answers.{Answer, gives, says, ◌then◌, refuse_unless}
 use Rattle.board.specs.Boards.{among, max_height, width_fits, is_width}
 use Rattle.board.specs.Search.{all_below}
+use Rattle.board.specs.declared.ChosenRow.{ChosenRow}
+use Rattle.board.specs.declared.Refusal.{Refusal}
 use Rattle.elimination.specs.Task.{is_fill}
 use Rattle.elimination.specs.Task as Elimination
 use Rattle.elimination.specs.Shape.{Shape, Numbers, numbers_fit, after_entry, after_entries, after_row, after_none}
@@ -16,9 +18,6 @@ use Rattle.job_kind.specs.declared.Kind.{Kind}
 use Rattle.job.specs.declared.Stage.{Stage}
 use Rattle.job.specs.declared.Job.{Job}
 use Rattle.job.specs.declared.Checkpoint.{Checkpoint}
-use Rattle.job.specs.declared.JobResult.{JobResult}
-use Rattle.job.specs.declared.Paused.{Paused}
-use Rattle.job.specs.declared.Chosen.{Chosen}
 use Rattle.job.specs.declared.Task as Task
 
 -- ---- the ten numbers of a job
@@ -137,10 +136,9 @@ task_due j =
     let S = shape_of j.kind j.width j.height in
     cond (runs_within j && ltb j.units S.board_length) (Some (S.plan j.units)) None
 
-abbrev pub task_of : Task.Task → Option Elimination.Task
-task_of (Task.Task.Fill after source target entry) = Some (Elimination.fill after source target entry)
-task_of (Task.Task.Choose row source) = Some (Elimination.row row source)
-task_of Task.Task.Nothing = None
+abbrev pub task_of : Task.Task → Elimination.Task
+task_of (Task.Task.Fill after source target entry) = Elimination.fill after source target entry
+task_of (Task.Task.Choose row source) = Elimination.row row source
 
 -- a job's ten numbers with these in place of those that its units change, and the job of them
 abbrev pub numbers_with : Job → Numbers → Checkpoint
@@ -162,20 +160,20 @@ job_with j n = job_of j.kind (numbers_with j n)
 
 -- After the choice of the row with r rows above it. A row that is none of the shape's codes, or worth more than a row can be, leaves the job as it
 -- is, and so does a job whose live cells are more than its rows can have. Where no row can be chosen the job ends at row 1, and stands at a later row.
-abbrev pub after_choice : Shape → ℕ → Job → Chosen → Job
-after_choice S r j (Chosen.Row row worth) =
-    cond (ltb row S.codes && leb worth S.most && leb (live_of j.stage) (S.most * S.rows))
-    (job_with j (after_row S.rows r row (worth + live_of j.stage) (numbers_in (numbers_of j)))) j
-after_choice S zero j Chosen.Nothing = job_with j (after_none (numbers_in (numbers_of j)))
-after_choice S (suc r) j Chosen.Nothing = j
+abbrev pub after_choice : Shape → ℕ → Job → Option ChosenRow → Job
+after_choice S r j (Some chosen) =
+    cond (ltb chosen.row S.codes && leb chosen.worth S.most && leb (live_of j.stage) (S.most * S.rows))
+    (job_with j (after_row S.rows r chosen.row (chosen.worth + live_of j.stage) (numbers_in (numbers_of j)))) j
+after_choice S zero j None = job_with j (after_none (numbers_in (numbers_of j)))
+after_choice S (suc r) j None = j
 
 -- The job after its unit: by its task, and where that chooses a row by what is chosen. Without a task it stays as it is.
-abbrev pub after_task : Option Elimination.Task → Job → Chosen → Job
+abbrev pub after_task : Option Elimination.Task → Job → Option ChosenRow → Job
 after_task None j chosen = j
 after_task (Some (Elimination.fill k source target entry)) j chosen = job_with j (after_entry (numbers_in (numbers_of j)))
 after_task (Some (Elimination.row r source)) j chosen = after_choice (shape_of j.kind j.width j.height) r j chosen
 
-unfoldable pub after_unit : Job → Chosen → Job
+unfoldable pub after_unit : Job → Option ChosenRow → Job
 after_unit j chosen = after_task (task_due j) j chosen
 
 -- The job after m entries: the job runs, and each of the next m units fills one. Where that isn't so, it stays as it is.
@@ -186,10 +184,8 @@ unfoldable pub after_fills : ℕ → Job → Job
 after_fills m j = cond (fills_next j m) (job_with j (after_entries m (numbers_in (numbers_of j)))) j
 
 -- ---- the paper's number and values of each answer
-abbrev pub job_result_says : JobResult → Answer
-job_result_says (JobResult.Ready j) = gives (job_says j)
-job_result_says (JobResult.Refused r) = refusal_says r
+abbrev pub job_result_says : Result Job Refusal → Answer
+job_result_says = says job_says
 
-abbrev pub paused_says : Paused → Answer
-paused_says (Paused.Numbers t) = gives (checkpoint_says t)
-paused_says (Paused.Refused r) = refusal_says r
+abbrev pub paused_says : Result Checkpoint Refusal → Answer
+paused_says = says checkpoint_says

@@ -14,8 +14,11 @@ ghost use Rattle.std.specs.Prelude.{◌≡◌, option_map};
 ghost use Rattle.job.specs.Jobs.{numbers_of, task_due, task_of, after_unit, after_fills};
 ghost use Rattle.job.specs.Calls.{Opens, Pauses, Resumes};
 
+use shape::Shape;
+use units::Due;
+
 // What a job does next, with that stage's numbers: the last two rows chosen, and the live cells so far that were free, with a target all live cells.
-#[derive(Clone, Copy)]
+#[derive(Clone, Copy, Debug, PartialEq, Eq)]
 pub enum Stage {
     Filling {
         above: usize,
@@ -37,7 +40,7 @@ pub enum Stage {
 }
 
 // A job: its kind, its rule, its grid's width and height, the units done, and its stage.
-#[derive(Clone, Copy)]
+#[derive(Clone, Copy, Debug, PartialEq, Eq)]
 pub struct Job {
     pub kind: Kind,
     pub rule: Rule,
@@ -48,7 +51,7 @@ pub struct Job {
 }
 
 // The ten numbers of a paused job: 0 running, 1 finished, 2 infeasible is its mark, then its rule, and its kind's number.
-#[derive(Clone, Copy)]
+#[derive(Clone, Copy, Debug, PartialEq, Eq)]
 pub struct Checkpoint {
     pub width: usize,
     pub height: usize,
@@ -63,7 +66,7 @@ pub struct Checkpoint {
 }
 
 // What the next unit of a job is to do.
-#[derive(Clone, Copy)]
+#[derive(Clone, Copy, Debug, PartialEq, Eq)]
 pub enum Task {
     // Fill an entry of the layer that starts at `target` and has `after` rows after it, by the layer that starts at `source`.
     Fill {
@@ -81,7 +84,14 @@ pub enum Task {
 
 // A job of a kind at unit 0 under a rule for a grid of givens: w × h marks, 0 free, 1 given dead, 2 given live; or for a target in their place: w × h
 // cells, 0 dead, 1 live. Refusals 1, 2, 13, 3, 4, 14, 15; of a target 1, 2, 13, 3, 4.
-pub fn open(kind: Kind, rule: Rule, width: usize, height: usize, givens: &[u8]) -> Result<Job, Refusal>
+#[tactic(auto, unfolding(crate::specs::Jobs::open_rule))]
+pub fn open(
+    kind: Kind,
+    rule: Rule,
+    width: usize,
+    height: usize,
+    givens: &[u8],
+) -> Result<Job, Refusal>
     ensures { Opens kind rule width height givens.now result }
 {
     rule::check(kind.halves(), rule, width, height)?;
@@ -102,18 +112,25 @@ pub fn open(kind: Kind, rule: Rule, width: usize, height: usize, givens: &[u8]) 
 
 impl Checkpoint {
     // The job of these numbers, resumed as a kind. Refusal 7, also for numbers of another kind.
+    #[tactic(auto, unfolding(crate::specs::Jobs::resume_rule), using(crate::proofs::Checkpoints::numbers_back))]
     pub fn resume(self, kind: Kind) -> Result<Job, Refusal>
         ensures { Resumes kind self result }
     {
         if !numbers::checkpoint_fits(kind, self) {
             return Err(Refusal::Checkpoint);
         }
-        Ok(numbers::job_of(kind, self))
+        let shape = Shape {
+            kind,
+            width: self.width,
+            height: self.height,
+        };
+        Ok(numbers::job_of(shape, self))
     }
 }
 
 impl Job {
     // The numbers of this job. Refusal 7.
+    #[tactic(auto, unfolding(crate::specs::Jobs::pause_rule))]
     pub fn pause(self) -> Result<Checkpoint, Refusal>
         ensures { Pauses self result }
     {
@@ -131,49 +148,63 @@ impl Job {
     }
 
     // What the next unit is to do: none where the job has ended, its units are spent, or its width or height is past its limit.
+    #[tactic(auto, using(crate::proofs::Next::due_never, crate::proofs::Next::due_while))]
     pub fn task(self) -> Option<Task>
         ensures { option_map task_of result ≡ task_due self }
     {
-        let job = self;
-        if !units::is_running(job) {
+        if !units::is_running(self) {
             return None;
         }
-        let kind = job.kind;
-        shape::task_at(kind, job.width, job.height, job.units)
+        let shape = Shape {
+            kind: self.kind,
+            width: self.width,
+            height: self.height,
+        };
+        shape.task_at(self.units)
     }
 
     // The job after its unit: by its task, and where that chooses a row by what is chosen. Without a task it stays as it is.
     pub fn after(self, chosen: Option<ChosenRow>) -> Job
         ensures { result ≡ after_unit self chosen }
     {
-        let job = self;
-        if !units::is_running(job) {
-            return job;
+        if !units::is_running(self) {
+            return self;
         }
-        let kind = job.kind;
-        let x = shape::round_of(kind, job.width, job.height, job.units);
+        let shape = Shape {
+            kind: self.kind,
+            width: self.width,
+            height: self.height,
+        };
+        let x = shape.round_of(self.units);
         if x.left != 0 {
-            return units::after_entries(job, 1, x.left != 1);
+            return units::after_entries(self, 1, x.left != 1);
         }
-        if x.rows < job.height {
-            return units::after_choice(job, x.rows, chosen);
+        if x.rows < self.height {
+            let due = Due {
+                job: self,
+                rows: x.rows,
+            };
+            return due.after(chosen);
         }
-        job
+        self
     }
 
     // The job after so many entries. Where it doesn't run, or fewer are to be filled before the next row, it stays as it is.
     pub fn after_entries(self, count: usize) -> Job
         ensures { result ≡ after_fills count self }
     {
-        let job = self;
-        if !units::is_running(job) {
-            return job;
+        if !units::is_running(self) {
+            return self;
         }
-        let kind = job.kind;
-        let x = shape::round_of(kind, job.width, job.height, job.units);
+        let shape = Shape {
+            kind: self.kind,
+            width: self.width,
+            height: self.height,
+        };
+        let x = shape.round_of(self.units);
         if x.left < count {
-            return job;
+            return self;
         }
-        units::after_entries(job, count, x.left != count)
+        units::after_entries(self, count, x.left != count)
     }
 }

@@ -7,54 +7,41 @@ ghost use Rattle.job.specs.Jobs.{above_of, last_of, live_of, mark_of, rule_of, c
 ghost use Rattle.job.specs.Inner.{RoundIs};
 ghost use Rattle.job.specs.declared.Stage.{Stage};
 
-use crate::shape::Round;
-use crate::{Checkpoint, Job, Stage, shape};
+use crate::shape::{Round, Shape};
+use crate::{Checkpoint, Job, Stage};
 use job_kind::Kind;
 use rule::Rule;
 
 // Whether the units, which are in round x, fit the end mark.
-fn units_fit(kind: Kind, w: usize, h: usize, units: usize, x: Round, mark: usize) -> bool
-    requires { Width (halves_of kind) w × (h ≤ max_height) × RoundIs kind w h units x }
-    ensures { result ≡ units_fit (shape_of kind w h) units mark }
+#[tactic(auto, unfolding(elimination::specs::Shape::units_fit), using(crate::proofs::Rounds::runs_same, crate::proofs::Rounds::ends_same, crate::proofs::Rounds::ends_not))]
+fn units_fit(shape: Shape, units: usize, x: Round, mark: usize) -> bool
+    requires { RoundIs shape.kind shape.width shape.height units x }
+    ensures { result ≡ units_fit (shape_of shape.kind shape.width shape.height) units mark }
 {
     match mark {
-        0 => x.rows < h,
-        1 => {
-            if x.rows < h {
-                return false;
-            }
-            x.place == 0
-        }
-        2 => units == board::table_size(kind.row_digits(w), h) + 1,
+        0 => x.rows < shape.height,
+        1 => shape.height <= x.rows && x.place == 0,
+        2 => units == board::table_size(shape.row_digits(), shape.height) + 1,
         _ => false,
     }
 }
 
 // The rows chosen, where the units, which are in round x, fit the end mark; with mark 2 no row counts as chosen.
-fn rows_chosen(kind: Kind, w: usize, h: usize, units: usize, x: Round, mark: usize) -> usize
-    requires { (0 < h) × RoundIs kind w h units x × (units_fit (shape_of kind w h) units mark ≡ true) }
-    ensures { (result ≡ rows_chosen (shape_of kind w h) units mark) × (result ≤ h) }
+fn rows_chosen(shape: Shape, units: usize, x: Round, mark: usize) -> usize
+    requires { (0 < shape.height) × RoundIs shape.kind shape.width shape.height units x
+        × (units_fit (shape_of shape.kind shape.width shape.height) units mark ≡ true) }
+    ensures { (result ≡ rows_chosen (shape_of shape.kind shape.width shape.height) units mark) × (result ≤ shape.height) }
 {
-    if mark == 2 {
-        return 0;
-    }
-    x.rows
+    if mark == 2 { 0 } else { x.rows }
 }
 
 // Whether the rows and the live cells fit k rows chosen.
+#[tactic(auto, unfolding(elimination::specs::Shape::rows_fit))]
 fn rows_fit(w: usize, k: usize, above: usize, last: usize, live: usize) -> bool
     requires { (w ≤ max_mirror_width) × (k ≤ max_height) }
     ensures { result ≡ rows_fit w k above last live }
 {
-    if w * k < live {
-        return false;
-    }
-    if k == 0 {
-        if last != 0 {
-            return false;
-        }
-    }
-    if k < 2 { above == 0 } else { true }
+    live <= w * k && (k != 0 || last == 0) && (k >= 2 || above == 0)
 }
 
 // The rule of a paused job.
@@ -68,38 +55,38 @@ fn rule_of(t: Checkpoint) -> Rule
 }
 
 // Whether resuming as a kind takes the numbers.
+#[tactic(auto, unfolding(crate::specs::Jobs::checkpoint_fits, elimination::specs::Shape::numbers_fit))]
 pub fn checkpoint_fits(kind: Kind, t: Checkpoint) -> bool
     ensures { result ≡ checkpoint_fits kind t }
 {
     if t.kind != kind.number() {
         return false;
     }
-    let w = t.width;
-    let h = t.height;
-    if rule::check(kind.halves(), rule_of(t), w, h).is_err() {
+    if rule::check(kind.halves(), rule_of(t), t.width, t.height).is_err() {
         return false;
     }
-    let digits = kind.row_digits(w);
-    if t.above >> digits != 0 {
+    let shape = Shape {
+        kind,
+        width: t.width,
+        height: t.height,
+    };
+    if !shape.is_row(t.above) || !shape.is_row(t.last) {
         return false;
     }
-    if t.last >> digits != 0 {
+    let x = shape.round_of(t.units);
+    if !units_fit(shape, t.units, x, t.mark) {
         return false;
     }
-    let x = shape::round_of(kind, w, h, t.units);
-    if !units_fit(kind, w, h, t.units, x, t.mark) {
-        return false;
-    }
-    let k = rows_chosen(kind, w, h, t.units, x, t.mark);
-    rows_fit(w, k, t.above, t.last, t.live)
+    let k = rows_chosen(shape, t.units, x, t.mark);
+    rows_fit(t.width, k, t.above, t.last, t.live)
 }
 
 // Whether a running job's stage is the task of its next unit.
-fn stage_fits(kind: Kind, w: usize, h: usize, units: usize, stage: Stage) -> bool
-    requires { Width (halves_of kind) w × (h ≤ max_height) }
-    ensures { result ≡ stage_fits (shape_of kind w h) units stage }
+#[tactic(auto, using(crate::proofs::Rounds::fills_left, crate::proofs::Rounds::chooses_left))]
+fn stage_fits(shape: Shape, units: usize, stage: Stage) -> bool
+    ensures { result ≡ stage_fits (shape_of shape.kind shape.width shape.height) units stage }
 {
-    let x = shape::round_of(kind, w, h, units);
+    let x = shape.round_of(units);
     match stage {
         Stage::Filling { .. } => x.left != 0,
         Stage::Choosing { .. } => x.left == 0,
@@ -109,19 +96,23 @@ fn stage_fits(kind: Kind, w: usize, h: usize, units: usize, stage: Stage) -> boo
 }
 
 // Whether pausing and working take the job.
+#[tactic(auto, unfolding(crate::specs::Jobs::job_fits))]
 pub fn job_fits(job: Job) -> bool
     ensures { result ≡ job_fits job }
 {
-    let kind = job.kind;
-    if !checkpoint_fits(kind, numbers_of(job)) {
+    if !checkpoint_fits(job.kind, numbers_of(job)) {
         return false;
     }
-    let stage = job.stage;
-    stage_fits(kind, job.width, job.height, job.units, stage)
+    let shape = Shape {
+        kind: job.kind,
+        width: job.width,
+        height: job.height,
+    };
+    stage_fits(shape, job.units, job.stage)
 }
 
 // The numbers that a stage carries.
-#[derive(Clone, Copy)]
+#[derive(Clone, Copy, Debug, PartialEq, Eq)]
 pub struct Kept {
     pub above: usize,
     pub last: usize,
@@ -165,9 +156,7 @@ pub fn kept_in(stage: Stage) -> Kept
 pub fn numbers_of(job: Job) -> Checkpoint
     ensures { result ≡ numbers_of job }
 {
-    let kind = job.kind;
-    let stage = job.stage;
-    let c = kept_in(stage);
+    let c = kept_in(job.stage);
     Checkpoint {
         width: job.width,
         height: job.height,
@@ -178,17 +167,16 @@ pub fn numbers_of(job: Job) -> Checkpoint
         mark: c.mark,
         births: job.rule.births,
         survivals: job.rule.survivals,
-        kind: kind.number(),
+        kind: job.kind.number(),
     }
 }
 
-// The stage that numbers of a kind give.
-fn stage_of(kind: Kind, t: Checkpoint) -> Stage
-    requires { Width (halves_of kind) t.width × (t.height ≤ max_height) }
-    ensures { result ≡ stage_of kind t }
+// The stage that numbers of a shape give.
+#[tactic(auto, unfolding(crate::specs::Jobs::stage_of), using(crate::proofs::Rounds::fills_left))]
+fn stage_of(shape: Shape, t: Checkpoint) -> Stage
+    ensures { result ≡ stage_of shape.kind (record t { width = shape.width; height = shape.height }) }
 {
-    let mark = t.mark;
-    match mark {
+    match t.mark {
         1 => Stage::Finished {
             above: t.above,
             last: t.last,
@@ -196,7 +184,7 @@ fn stage_of(kind: Kind, t: Checkpoint) -> Stage
         },
         2 => Stage::Infeasible,
         _ => {
-            let x = shape::round_of(kind, t.width, t.height, t.units);
+            let x = shape.round_of(t.units);
             running(x.left != 0, t.above, t.last, t.live)
         }
     }
@@ -213,19 +201,16 @@ pub fn running(fills: bool, above: usize, last: usize, live: usize) -> Stage
     }
 }
 
-// The job of ten numbers, as a kind.
-pub fn job_of(kind: Kind, t: Checkpoint) -> Job
-    requires { Width (halves_of kind) t.width × (t.height ≤ max_height) }
-    ensures { result ≡ job_of kind t }
+// The job of a shape and the numbers that don't belong to it.
+pub fn job_of(shape: Shape, t: Checkpoint) -> Job
+    ensures { result ≡ job_of shape.kind (record t { width = shape.width; height = shape.height }) }
 {
-    let rule = rule_of(t);
-    let stage = stage_of(kind, t);
     Job {
-        kind,
-        rule,
-        width: t.width,
-        height: t.height,
+        kind: shape.kind,
+        rule: rule_of(t),
+        width: shape.width,
+        height: shape.height,
         units: t.units,
-        stage,
+        stage: stage_of(shape, t),
     }
 }

@@ -6,6 +6,7 @@ ghost use Rattle.elimination.specs.Shape.{after_entries, after_none};
 ghost use Rattle.job_kind.specs.Kinds.{halves_of, board_length, shape_of};
 ghost use Rattle.job.specs.Jobs.{runs_within, numbers_in, numbers_of, job_with, after_choice};
 
+use crate::shape::Shape;
 use crate::{Checkpoint, Job, numbers};
 use board::ChosenRow;
 
@@ -13,86 +14,107 @@ use board::ChosenRow;
 pub fn is_running(job: Job) -> bool
     ensures { result ≡ runs_within job }
 {
-    let kind = job.kind;
-    if !board::width_fits(kind.halves(), job.width) {
-        return false;
-    }
-    if board::MAX_HEIGHT < job.height {
-        return false;
-    }
-    numbers::numbers_of(job).mark == 0
+    board::width_fits(job.kind.halves(), job.width)
+        && job.height <= board::MAX_HEIGHT
+        && numbers::kept_in(job.stage).mark == 0
 }
 
 // After so many entries, where the next unit fills another one or not.
+#[tactic(auto, unfolding(crate::specs::Jobs::stage_of))]
 pub fn after_entries(job: Job, count: usize, more: bool) -> Job
-    requires count_bound { job.units + count < 2 ^ 64 }
-    requires more_value { more ≡ is_fill ((shape_of job.kind job.width job.height).plan (job.units + count)) }
+    requires no_overflow { job.units + count < 2 ^ 64 }
+    requires more_is_fill { more ≡ is_fill ((shape_of job.kind job.width job.height).plan (job.units + count)) }
     ensures { result ≡ job_with job (after_entries count (numbers_in (numbers_of job))) }
 {
-    let kind = job.kind;
-    let rule = job.rule;
-    let before = job.stage;
-    let c = numbers::kept_in(before);
-    let stage = numbers::running(more, c.above, c.last, c.live);
+    let c = numbers::kept_in(job.stage);
     Job {
-        kind,
-        rule,
-        width: job.width,
-        height: job.height,
         units: job.units + count,
-        stage,
+        stage: numbers::running(more, c.above, c.last, c.live),
+        ..job
     }
 }
 
-// After the choice of the row with r rows above it.
-pub fn after_choice(job: Job, r: usize, chosen: Option<ChosenRow>) -> Job
-    requires { Width (halves_of job.kind) job.width × (job.height ≤ max_height) × (job.units < board_length job.kind job.width job.height) × (r ≤ job.units) }
-    ensures { result ≡ after_choice (shape_of job.kind job.width job.height) r job chosen }
-{
-    match chosen {
-        Some(chosen) => after_row(job, r, chosen),
-        None => {
-            if r != 0 {
-                return job;
+// A job of a width and a height within their limits whose next unit chooses a row, and the rows above that row.
+#[derive(Clone, Copy, Debug, PartialEq, Eq)]
+pub struct Due {
+    pub job: Job,
+    pub rows: usize,
+    ghost narrow: { Width (halves_of job.kind) job.width },
+    ghost low: { job.height ≤ max_height },
+    ghost left: { job.units < board_length job.kind job.width job.height },
+    ghost early: { rows ≤ job.units },
+}
+
+impl Due {
+    // The job after the choice.
+    pub fn after(self, chosen: Option<ChosenRow>) -> Job
+        ensures { result ≡ after_choice (shape_of self.job.kind self.job.width self.job.height) self.rows self.job chosen }
+    {
+        match chosen {
+            Some(chosen) => self.after_row(chosen),
+            None => {
+                if self.rows != 0 {
+                    return self.job;
+                }
+                self.after_none()
             }
-            after_none(job)
         }
     }
-}
 
-// After a row.
-fn after_row(job: Job, r: usize, chosen: ChosenRow) -> Job
-    requires { Width (halves_of job.kind) job.width × (job.height ≤ max_height) × (job.units < board_length job.kind job.width job.height) × (r ≤ job.units) }
-    ensures { result ≡ after_choice (shape_of job.kind job.width job.height) r job (Some chosen) }
-{
-    let kind = job.kind;
-    let w = job.width;
-    let h = job.height;
-    let t = numbers::numbers_of(job);
-    if chosen.row >> kind.row_digits(w) != 0 {
-        return job;
+    // After a row.
+    #[tactic(auto, using(crate::proofs::Next::units_few))]
+    fn after_row(self, chosen: ChosenRow) -> Job
+        ensures { result ≡ after_choice (shape_of self.job.kind self.job.width self.job.height) self.rows self.job (Some chosen) }
+    {
+        let job = self.job;
+        let shape = Shape {
+            kind: job.kind,
+            width: job.width,
+            height: job.height,
+        };
+        let t = numbers::numbers_of(job);
+        if !shape.is_row(chosen.row) {
+            return job;
+        }
+        if job.width < chosen.worth {
+            return job;
+        }
+        if job.width * job.height < t.live {
+            return job;
+        }
+        numbers::job_of(
+            shape,
+            Checkpoint {
+                units: job.units + 1, // one row
+                above: t.last,
+                last: chosen.row,
+                live: chosen.worth + t.live,
+                mark: mark_after(job.height, self.rows),
+                ..t
+            },
+        )
     }
-    if w < chosen.worth {
-        return job;
+
+    // Where no row can be chosen as row 1.
+    fn after_none(self) -> Job
+        ensures { result ≡ job_with self.job (after_none (numbers_in (numbers_of self.job))) }
+    {
+        let job = self.job;
+        let shape = Shape {
+            kind: job.kind,
+            width: job.width,
+            height: job.height,
+        };
+        let t = numbers::numbers_of(job);
+        numbers::job_of(
+            shape,
+            Checkpoint {
+                units: job.units + 1, // spent, with nothing written
+                mark: 2,
+                ..t
+            },
+        )
     }
-    if w * h < t.live {
-        return job;
-    }
-    numbers::job_of(
-        kind,
-        Checkpoint {
-            width: w,
-            height: h,
-            units: t.units + 1, // one row
-            above: t.last,
-            last: chosen.row,
-            live: chosen.worth + t.live,
-            mark: mark_after(h, r),
-            births: t.births,
-            survivals: t.survivals,
-            kind: t.kind,
-        },
-    )
 }
 
 // The end mark after the row of h that has r rows above it.
@@ -101,16 +123,4 @@ fn mark_after(h: usize, r: usize) -> usize
     ensures { result ≡ cond (ltb (suc r) h) 0 1 }
 {
     if r + 1 < h { 0 } else { 1 }
-}
-
-// Where no row can be chosen as row 1.
-fn after_none(job: Job) -> Job
-    requires { Width (halves_of job.kind) job.width × (job.height ≤ max_height) × (job.units < board_length job.kind job.width job.height) }
-    ensures { result ≡ job_with job (after_none (numbers_in (numbers_of job))) }
-{
-    let kind = job.kind;
-    let mut t = numbers::numbers_of(job);
-    t.units = t.units + 1; // spent, with nothing written
-    t.mark = 2;
-    numbers::job_of(kind, t)
 }

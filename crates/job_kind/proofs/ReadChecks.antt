@@ -20,17 +20,8 @@ use Rattle.job_kind.specs.declared.Kind.{Kind}
 
 module _ (kind : Kind) (rule : Rule) (w h : ℕ) (givens : List ℕ) where
   -- the checks of givens after 3, 4
-  abbrev pub later_checks : Answer
+  abbrev later_checks : Answer
   later_checks = edge_check rule w h givens then mirror_check kind w h givens
-
-  -- of a target, and of givens
-  pub read_target : has_target kind ≡ true → read_check kind rule w h givens ≡ target_check w h givens
-  unfolding read_check
-  read_target t = rw t
-
-  pub read_givens : has_target kind ≡ false → read_check kind rule w h givens ≡ (givens_check w h givens then later_checks)
-  unfolding read_check
-  read_givens t = rw t
 
   pub read_marks : {values : List ℕ} → read_check kind rule w h givens ≡ gives values → Bytes (cond (has_target kind) 1 2) w h givens
   unfolding read_check

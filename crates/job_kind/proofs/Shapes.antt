@@ -8,6 +8,7 @@ use native.Mathlib.Nat.{mul-le-mul, mul-le-mul_left, mul-le-mul_right}
 use native.Mathlib.Omega.{arith}
 use borrow.Author.Tests.{lt-ltb}
 use lib.Pow.{pow_pos}
+use Rattle.std.specs.Prelude.{Some}
 use Rattle.board.specs.Boards.{max_height, Width}
 use Rattle.board.specs.Checks.{table_size}
 use Rattle.board.proofs.Powers.{four_two, four_pos, four_le}
@@ -21,24 +22,18 @@ use Rattle.elimination.proofs.FillThenChoose as Wholes
 use Rattle.elimination.proofs.TwoLayers as Twos
 use Rattle.elimination.proofs.Shape.{units_split, whole_lawful, two_lawful}
 use Rattle.elimination.proofs.Rounds.{fills_until, row_at, chosen_round, whole_rounds, two_rounds}
-use Rattle.job_kind.specs.Kinds.{kind_number, halves_of, refills, kind_digits, board_length, none_length, plan_of, chosen_in, shape_of, round_work, course_of, RowsAreChoosingUnits}
+use Rattle.job_kind.specs.Kinds.{kind_number, kind_at, halves_of, refills, kind_digits, board_length, none_length, plan_of, chosen_in, shape_of, round_work, course_of, RowsAreChoosingUnits}
 use Rattle.job_kind.specs.declared.Kind.{Kind}
 
 -- ---- the kind's number tells the kind
-abbrev kind_at : ℕ → Kind
-kind_at zero = Kind.Ordinary
-kind_at (suc zero) = Kind.TwoLayers
-kind_at (suc (suc zero)) = Kind.Mirror
-kind_at (suc (suc (suc n))) = Kind.Predecessor
-
-kind_at_lem : (kind : Kind) → kind_at (kind_number kind) ≡ kind
-kind_at_lem Kind.Ordinary = refl
-kind_at_lem Kind.TwoLayers = refl
-kind_at_lem Kind.Mirror = refl
-kind_at_lem Kind.Predecessor = refl
+pub kind_at_number : (kind : Kind) → kind_at (kind_number kind) ≡ Some kind
+kind_at_number Kind.Ordinary = refl
+kind_at_number Kind.TwoLayers = refl
+kind_at_number Kind.Mirror = refl
+kind_at_number Kind.Predecessor = refl
 
 pub number_tells : (kind kind' : Kind) → kind_number kind ≡ kind_number kind' → kind ≡ kind'
-number_tells kind kind' e = sym (kind_at_lem kind) ∙ ap kind_at e ∙ kind_at_lem kind'
+number_tells kind kind' e = let same : Some kind ≡ Some kind' = sym (kind_at_number kind) ∙ ap kind_at e ∙ kind_at_number kind' in cc
 
 -- ---- the shapes, by whether two layers are filled again or the whole table once
 module _ (kind : Kind) (w h : ℕ) where

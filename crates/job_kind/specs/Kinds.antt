@@ -1,7 +1,7 @@
 -- Document 01, "A job and its units", Req 02, Req 05, Req 06 and Req 08: the kinds of job, each with its number, how it holds rows, its table, its plan and
 -- length; and the checks of what is lent to be read, by the kind.
 -- Assumes nothing.
-use Rattle.std.specs.Prelude.{◌≡◌, Bool, true, false, cond, List, ℕ, ◌+◌, ◌*◌, ◌-◌, ◌/◌, ◌^◌, ◌≤◌, ◌<◌}
+use Rattle.std.specs.Prelude.{◌≡◌, Bool, true, false, cond, List, ℕ, ◌+◌, ◌*◌, ◌-◌, ◌/◌, ◌^◌, ◌≤◌, ◌<◌, eqb, Option, None, Some, Result, MatchResult}
 use Rattle.board.specs.Answers.{Answer, passed, ◌then◌}
 use Rattle.board.specs.Boards.{row_digits}
 use Rattle.board.specs.Checks.{givens_check, target_check, table_size}
@@ -14,6 +14,7 @@ use Rattle.elimination.specs.TwoLayers as Two
 use Rattle.elimination.specs.Shape.{Shape, chosen_from, entries_filled}
 use Rattle.rule.specs.declared.Rule.{Rule}
 use Rattle.job_kind.specs.declared.Kind.{Kind}
+use Rattle.job_kind.specs.declared.UnknownKind.{UnknownKind}
 
 -- the kind's number: ordinary 0, two layers only 1, mirror boards 2, predecessors of a target 3
 abbrev pub kind_number : Kind → ℕ
@@ -21,6 +22,17 @@ kind_number Kind.Ordinary = 0
 kind_number Kind.TwoLayers = 1
 kind_number Kind.Mirror = 2
 kind_number Kind.Predecessor = 3
+
+-- the kind with a number
+abbrev pub kind_at : ℕ → Option Kind
+kind_at n =
+    cond (eqb n (kind_number Kind.Ordinary)) (Some Kind.Ordinary)
+    (cond (eqb n (kind_number Kind.TwoLayers)) (Some Kind.TwoLayers)
+    (cond (eqb n (kind_number Kind.Mirror)) (Some Kind.Mirror) (cond (eqb n (kind_number Kind.Predecessor)) (Some Kind.Predecessor) None)))
+
+-- the result is the kind with a number, or that number, which no kind has
+abbrev pub Numbered : ℕ → Result Kind UnknownKind → Type 0
+Numbered n r = MatchResult r (λ kind. kind_at n ≡ Some kind) (λ e. (e.0 ≡ n) × (kind_at n ≡ None))
 
 -- a row is held as its left half
 abbrev pub halves_of : Kind → Bool

@@ -3,13 +3,13 @@
 
 ghost use Rattle.std.specs.Prelude.{◌≡◌};
 ghost use Rattle.board.specs.Answers.{check_says};
-ghost use Rattle.job_kind.specs.Kinds.{kind_number, halves_of, refills, has_target, kind_digits, layers_of, read_check};
+ghost use Rattle.job_kind.specs.Kinds.{kind_number, halves_of, refills, has_target, kind_digits, layers_of, read_check, Numbered};
 
 use board::Refusal;
 use rule::Rule;
 
 // The kinds of job. The first two come to the same board; they differ in the table that they take, and in their length.
-#[derive(Clone, Copy)]
+#[derive(Clone, Copy, Debug, PartialEq, Eq)]
 pub enum Kind {
     // The whole table is filled, h layers, and then the rows are chosen.
     Ordinary,
@@ -21,9 +21,37 @@ pub enum Kind {
     Predecessor,
 }
 
+// A number that no kind has.
+#[derive(Clone, Copy, Debug, PartialEq, Eq)]
+pub struct UnknownKind(pub usize);
+
+// The kind with a number.
+impl TryFrom<usize> for Kind {
+    type Error = UnknownKind;
+
+    ghost try_from_gives = { Numbered };
+
+    fn try_from(number: usize) -> Result<Self, UnknownKind> {
+        match number {
+            0 => Ok(Kind::Ordinary),
+            1 => Ok(Kind::TwoLayers),
+            2 => Ok(Kind::Mirror),
+            3 => Ok(Kind::Predecessor),
+            _ => Err(UnknownKind(number)),
+        }
+    }
+}
+
 // The checks of what is lent to be read, by opening and by working: of a target 3, 4; of givens 3, 4, 14, and 15 where rows are held as their left
 // halves.
-pub fn check_read(kind: Kind, rule: Rule, width: usize, height: usize, givens: &[u8]) -> Result<(), Refusal>
+#[tactic(auto, unfolding(crate::specs::Kinds::read_check))]
+pub fn check_read(
+    kind: Kind,
+    rule: Rule,
+    width: usize,
+    height: usize,
+    givens: &[u8],
+) -> Result<(), Refusal>
     ensures { check_says result ≡ read_check kind rule width height givens.now }
 {
     if kind.has_target() {
@@ -54,36 +82,21 @@ impl Kind {
     pub fn halves(self) -> bool
         ensures { result ≡ halves_of self }
     {
-        match self {
-            Kind::Ordinary => false,
-            Kind::TwoLayers => false,
-            Kind::Mirror => true,
-            Kind::Predecessor => false,
-        }
+        matches!(self, Kind::Mirror)
     }
 
     // Whether the table holds two layers, which are filled again before each row.
     pub fn refills(self) -> bool
         ensures { result ≡ refills self }
     {
-        match self {
-            Kind::Ordinary => false,
-            Kind::TwoLayers => true,
-            Kind::Mirror => false,
-            Kind::Predecessor => false,
-        }
+        matches!(self, Kind::TwoLayers)
     }
 
     // Whether a target is lent in the givens' place.
     pub fn has_target(self) -> bool
         ensures { result ≡ has_target self }
     {
-        match self {
-            Kind::Ordinary => false,
-            Kind::TwoLayers => false,
-            Kind::Mirror => false,
-            Kind::Predecessor => true,
-        }
+        matches!(self, Kind::Predecessor)
     }
 
     // The binary digits of the number of a row of w cells.

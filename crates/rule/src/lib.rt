@@ -11,7 +11,7 @@ ghost use Rattle.board.specs.Answers.{check_says};
 ghost use Rattle.rule.specs.Rule.{conway_rule, next_state, rule_check, grid_check};
 
 // A rule: the counts of live neighbours on which a dead cell is born and on which a live one survives, count n adding 2^n.
-#[derive(Clone, Copy)]
+#[derive(Clone, Copy, Debug, PartialEq, Eq)]
 pub struct Rule {
     pub births: usize,
     pub survivals: usize,

