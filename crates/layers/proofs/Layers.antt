@@ -11,8 +11,12 @@ use native.Mathlib.Omega.{arith}
 use native.Mathlib.Decide.{dec_lt}
 use lib.Arith.{digits_lt}
 use lib.Dec.{eqb, leb}
-use lib.ListN.{length, get_or, replicate, length-replicate}
-use lib.Pow.{pow_pos}
+use lib.ListN.{length, get_or, replicate, length-replicate, drop, length-take, length-drop}
+use borrow.Rule.Slice.PartMut.{mid_of, put_mid}
+use borrow.Author.Rules.{rules}
+use Rattle.std.proofs.lemmas.List.{places}
+use lib.Pow.{pow_pos, pow-add}
+use Rattle.std.specs.Int.{abs_diff}
 use borrow.Author.Tests.{lt-ltb, le-ltb, lt-leb, le-leb, leb-true, eq-eqb, ne_eqb, eqb-true, eqb-false, not-true}
 use Rattle.board.specs.Boards.{max_width}
 use Rattle.board.proofs.Powers.{two_le, four_two}
@@ -74,6 +78,13 @@ module _ (limit : ℕ) (next : ℕ → ℕ) (w source target : ℕ) (gains : ℕ
 vector_fits : {w n : ℕ} → w ≤ max_width → n ≡ 32768 → 32 * 2 ^ w ≤ n
 vector_fits {w} l e = let m : 2 ^ w ≤ 1024 = two_le l in omega arith
 
+-- rows come in eights
+pub eights : (w n : ℕ) → 3 ≤ w → n ≡ 2 ^ w → 8 * (n / 8) ≡ 2 ^ w
+eights w n l e =
+    let d : w ≡ 3 + (w - 3) = omega arith in
+    let f : 2 ^ w ≡ 8 * 2 ^ (w - 3) = ap (λ (x : ℕ). 2 ^ x) d ∙ pow-add 2 3 (w - 3) in
+    rw e (omega arith)
+
 -- what is asked by the number of rows
 pub rows_room : {w n : ℕ} (b target long : ℕ) → w ≤ max_width → n ≡ 2 ^ w → b + 8 ≤ 2 ^ w → target + 2 ^ w * 2 ^ w ≤ long
     → (n ≤ 1024) × (b + 8 ≤ n) × (target + n * n ≤ long)
@@ -88,6 +99,22 @@ pub loaded_holds : {w n : ℕ} (limit b : ℕ) (worth table : List ℕ) (first :
     → Wrote 0 (32 * n) (loaded limit n worth table first) old new
     → (next : ℕ → ℕ) → VectorHolds next w b (λ l. start_number limit w (λ c. get_or worth c 0) (λ c. get_or table (first + l * 2 ^ w + c) 0)) 0 new
 loaded_holds {w} limit b worth table first narrow e long W next = load_holds next limit w b worth table first (rw e at W) (vector_fits narrow long)
+
+-- zeros from one place of a vector to another
+pub zeros_wrote : (a m : ℕ) (xs ys : List ℕ) → a + m ≤ length xs → length ys ≡ length (mid_of a m xs)
+    → ((k d : ℕ) → k < length (mid_of a m xs) → ◌≡◌ {A = ℕ} 0 0 → get_or ys k d ≡ 0) → Wrote a m (λ y. 0) xs (put_mid a m xs ys)
+zeros_wrote a m xs ys p l f =
+    let n : length (mid_of a m xs) ≡ m = omega (arith, length-take m (drop a xs), length-drop a xs) in
+    let q : length ys ≡ m = l ∙ n in
+    record {
+      long = search (rules, places);
+      inside = λ y h i.
+          let z : get_or ys y 0 ≡ 0 = f y 0 (omega arith) refl in
+          let e : get_or (put_mid a m xs ys) (a + y) 0 ≡ get_or ys y 0 = grind (arith, places) in
+          e ∙ z;
+      before = λ k h. grind (arith, places);
+      after = λ k h. grind (arith, places);
+    }
 
 -- in new arrays: what rows earn, and the masks of the patterns
 pub gains_are : {w : ℕ} (givens : List ℕ) (at : ℕ) {worth : List ℕ} → w ≤ max_width → Wrote 0 (2 ^ w) (row_gain w givens at) (replicate 1024 0) worth
@@ -204,6 +231,17 @@ module _ (want : Want) (w k source target count : ℕ) where
             pub once_apart : count ≡ 4 ^ w → are_apart source target (4 ^ w) ≡ at_once want w k source target count
             unfolding at_once
             once_apart c = rw (e, f, t, le-leb narrowest w l, ne_eqb k 0 z, eq-eqb count (4 ^ w) c)
+
+-- the distance of the two starts, whichever comes first
+pub apart_diff : (source target q : ℕ) → leb q (abs_diff source target) ≡ are_apart source target q
+apart_diff source target q =
+    elim (dec_lt source target) [
+      | yes l ↦ let e : abs_diff source target ≡ target - source = omega arith in rw (e, lt-ltb source target l)
+      | no l ↦
+          let m : target ≤ source = omega arith in
+          let e : abs_diff source target ≡ source - target = omega arith in
+          rw (e, le-ltb source target m)
+    ]
 
 apart_are : (source target q : ℕ) → are_apart source target q ≡ true → Apart q source target
 apart_are source target q e =

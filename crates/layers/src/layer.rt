@@ -3,115 +3,127 @@
 ghost use Rattle.std.specs.Prelude.{◌≡◌, false, ℕ, ◌+◌, ◌*◌, ◌<◌, ◌≤◌, ◌^◌, length, get_or};
 ghost use Rattle.board.specs.Boards.{max_width};
 ghost use Rattle.rule.specs.Rule.{entry_of};
-ghost use Rattle.elimination.specs.Table.{fill_entries};
+ghost use Rattle.elimination.specs.Table.{fill_entries, Apart};
 ghost use Rattle.score_table.specs.Rows.{row_gain};
 ghost use Rattle.score_table.specs.ScoreTable.{kind_for};
 ghost use Rattle.score_table.specs.Inner.{Memory};
 ghost use Rattle.column_elimination.specs.Columns.{Keeps, scored, loaded, after_last, entry_in, entry_by, front, Turned, Ended};
 ghost use Rattle.column_elimination.specs.Written.{Wrote, Spread};
+ghost use Rattle.column_elimination.proofs.Layers.{Partly};
 ghost use Rattle.layers.specs.Layers.{Gained, LayerLent};
 
 use columns::{LAST_MASKS, MASKS, VECTOR};
-use score_table::{Grid, NONE};
+use score_table::{Entries, Grid, NONE};
 
 // The rows of the widest grid.
 const ROWS: usize = 1 << board::MAX_WIDTH;
 
-// The layer with k rows after it that starts at `target`, by the layer that starts at `source`.
-pub fn fill(grid: Grid<'_>, k: usize, source: usize, target: usize, table: &mut [u16])
-    requires { LayerLent grid.want grid.width grid.height k source target grid.givens.now table.old }
-    ensures { table.new ≡ fill_entries (kind_for grid.want (entry_of grid.next.now) grid.width grid.height grid.givens.now) k source target 0 (4 ^ grid.width) table.old }
+// What every eight rows of a layer are filled by: the width and number of rows, the greatest number read that counts, of each pattern whether its middle
+// cell keeps its state, and what rows earn and 1.
+#[derive(Clone, Copy)]
+struct Rows<'a> {
+    w: usize,
+    n: usize,
+    limit: u16,
+    keep: &'a [u16; 512],
+    worth: &'a [u16; ROWS],
+    ghost number: { (w ≤ max_width) × (n ≡ 2 ^ w) },
+    ghost gained: { Gained w limit worth.now },
+}
+
+// The numbers of eight rows b after an even and after an odd number of columns, and the masks of a column and of the last two.
+#[derive(Drop)]
+struct Vectors {
+    even: [u16; VECTOR],
+    odd: [u16; VECTOR],
+    masks: [u16; MASKS],
+    last: [u16; LAST_MASKS],
+    ghost lengths: { (length even ≡ 32768) × (length odd ≡ 32768) × (length masks ≡ 512) × (length last ≡ 128) },
+}
+
+// The layer that starts at `target`, by the layer that starts at `source`.
+pub fn fill(grid: Grid<'_>, entries: Entries, table: &mut [u16])
+    requires { LayerLent grid.want grid.width grid.height entries.after entries.source entries.target grid.givens.now table.old }
+    ensures { table.new ≡ fill_entries (kind_for grid.entry.want (entry_of grid.entry.next.now) grid.entry.width grid.entry.height grid.entry.givens.now) entries.after entries.source entries.target 0 (4 ^ grid.entry.width) table.old }
 {
-    let w = grid.width;
-    let h = grid.height;
-    let want = grid.want;
-    let n = 1 << w;
-    let limit = want.limit as u16;
-    let mut worth = [0u16; ROWS];
-    gains(w, n, h, h - k, grid.givens, &mut worth);
-    let mut keep = [0u16; 512];
+    let n = 1 << grid.width;
+    let mut worth = [0; ROWS];
+    gains(grid, n, grid.height - entries.after, &mut worth);
+    let mut keep = [0; 512];
     columns::keeps(grid.next, &mut keep);
-    let mut s = [0u16; VECTOR];
-    let mut d = [0u16; VECTOR];
-    let mut masks = [0u16; MASKS];
-    let mut last = [0u16; LAST_MASKS];
-    for v in 0..n / 8 {
-        fill_eight(
-            &keep,
-            w,
-            n,
-            limit,
-            &worth,
-            8 * v,
-            source,
-            target,
-            table,
-            &mut s,
-            &mut d,
-            &mut masks,
-            &mut last,
-        );
+    let rows = Rows {
+        w: grid.width,
+        n,
+        limit: grid.want.limit as u16,
+        keep: &keep,
+        worth: &worth,
+    };
+    fill_rows(rows, entries.source, entries.target, table);
+}
+
+// The entries of every row b, eight rows at a time.
+fn fill_rows(rows: Rows<'_>, source: usize, target: usize, table: &mut [u16])
+    requires { (3 ≤ rows.w) × Apart (2 ^ rows.w * 2 ^ rows.w) source target × (source + 2 ^ rows.w * 2 ^ rows.w ≤ length table.old) × (target + 2 ^ rows.w * 2 ^ rows.w ≤ length table.old) }
+    ensures { (next : ℕ → ℕ) → Keeps next rows.entry.keep.now → Partly (2 ^ rows.entry.w) target (2 ^ rows.entry.w) (λ a b. entry_by rows.entry.limit next rows.entry.w (λ c. get_or rows.entry.worth.now c 0) table.old source a b) table.old table.new }
+{
+    let mut vectors = Vectors {
+        even: [0; VECTOR],
+        odd: [0; VECTOR],
+        masks: [0; MASKS],
+        last: [0; LAST_MASKS],
+    };
+    for v in 0..rows.n / 8 {
+        fill_eight(rows, 8 * v, source, target, table, &mut vectors);
     }
 }
 
 // What each row earns as the one with r rows above it and 1; 0 where it doesn't keep the givens.
-fn gains(w: usize, n: usize, h: usize, r: usize, givens: &[u8], worth: &mut [u16; ROWS])
-    requires { Memory false w h givens.now × (n ≡ 2 ^ w) × (r < h) }
-    ensures { Wrote 0 (2 ^ w) (row_gain w givens.now (r * w)) worth.old worth.new }
+fn gains(grid: Grid<'_>, n: usize, r: usize, worth: &mut [u16; ROWS])
+    requires { Memory false grid.width grid.height grid.givens.now × (n ≡ 2 ^ grid.width) × (r < grid.height) }
+    ensures { Wrote 0 (2 ^ grid.entry.width) (row_gain grid.entry.width grid.entry.givens.now (r * grid.entry.width)) worth.old worth.new }
 {
     for c in 0..n {
-        let g = score_table::row_gain(w, h, r, c, givens) as u16;
-        worth[c] = g;
+        worth[c] = score_table::row_gain(grid.width, grid.height, r, c, grid.givens) as u16;
     }
 }
 
 // The entries of eight rows b below every row a.
 fn fill_eight(
-    keep: &[u16; 512],
-    w: usize,
-    n: usize,
-    limit: u16,
-    worth: &[u16; ROWS],
+    rows: Rows<'_>,
     b: usize,
     source: usize,
     target: usize,
     table: &mut [u16],
-    s: &mut [u16; VECTOR],
-    d: &mut [u16; VECTOR],
-    masks: &mut [u16; MASKS],
-    last: &mut [u16; LAST_MASKS],
+    v: &mut Vectors,
 )
-    requires w_le_max_width { (w ≤ max_width) × (n ≡ 2 ^ w) × (b + 8 ≤ 2 ^ w) × (source + 2 ^ w * 2 ^ w ≤ length table.old) × (target + 2 ^ w * 2 ^ w ≤ length table.old) × Gained w limit worth.now }
-    requires s_len { (length s.old ≡ 32768) × (length d.old ≡ 32768) × (length masks.old ≡ 512) × (length last.old ≡ 128) }
-    ensures by_index { (next : ℕ → ℕ) → Keeps next keep.now → Spread (2 ^ w) target b (2 ^ w) (λ a l. entry_by limit next w (λ c. get_or worth.now c 0) table.old source a (b + l)) table.old table.new }
-    ensures s_len_2 { (length s.new ≡ 32768) × (length d.new ≡ 32768) × (length masks.new ≡ 512) × (length last.new ≡ 128) }
+    requires { (b + 8 ≤ 2 ^ rows.w) × (source + 2 ^ rows.w * 2 ^ rows.w ≤ length table.old) × (target + 2 ^ rows.w * 2 ^ rows.w ≤ length table.old) }
+    ensures { (next : ℕ → ℕ) → Keeps next rows.entry.keep.now → Spread (2 ^ rows.entry.w) target b (2 ^ rows.entry.w) (λ a l. entry_by rows.entry.limit next rows.entry.w (λ c. get_or rows.entry.worth.now c 0) table.old source a (b + l)) table.old table.new }
 {
-    load(limit, worth, n, table, source + b * n, s);
-    for j in 0..w {
-        turn(keep, w, b, j, s, d, masks);
+    load(rows, table, source + b * rows.n, &mut v.even);
+    for j in 0..rows.w {
+        turn(rows, b, j, v);
     }
-    finish(keep, w, n, b, s, d, last, table, target);
+    finish(rows, b, v, table, target);
 }
 
 // Loads the numbers of eight rows b, whose entries start at `first`; the two cells before those of row c are dead.
-fn load(
-    limit: u16,
-    worth: &[u16; ROWS],
-    n: usize,
-    table: &[u16],
-    first: usize,
-    s: &mut [u16; VECTOR],
-)
-    requires n_bound { (n ≤ 1024) × (first + 8 * n ≤ length table.now) }
-    requires by_index { (c : ℕ) → c < n → get_or worth.now c 0 + limit ≤ 65535 }
-    ensures { Wrote 0 (32 * n) (loaded limit n worth.now table.now first) s.old s.new }
+fn load(rows: Rows<'_>, table: &[u16], first: usize, vector: &mut [u16; VECTOR])
+    requires { first + 8 * rows.n ≤ length table.now }
+    ensures { Wrote 0 (32 * rows.entry.n) (loaded rows.entry.limit rows.entry.n rows.entry.worth.now table.now first) vector.old vector.new }
 {
+    let n = rows.n;
     for c in 0..n {
-        load_eight(limit, worth[c], n, table, first + c, s, 8 * c);
+        load_eight(
+            rows.limit,
+            rows.worth[c],
+            n,
+            table,
+            first + c,
+            vector,
+            8 * c,
+        );
     }
-    for z in 8 * n..32 * n {
-        s[z] = 0;
-    }
+    vector[8 * n..32 * n].fill(0);
 }
 
 // Loads the numbers of one row c, by its gain, for eight rows b.
@@ -121,75 +133,53 @@ fn load_eight(
     n: usize,
     table: &[u16],
     at: usize,
-    s: &mut [u16; VECTOR],
+    vector: &mut [u16; VECTOR],
     o: usize,
 )
     requires { (gain + limit ≤ 65535) × (n ≤ 1024) × (at + 7 * n < length table.now) × (o + 8 ≤ 32768) }
-    ensures { Wrote o 8 (λ l. scored limit gain (get_or table.now (at + l * n) 0)) s.old s.new }
+    ensures { Wrote o 8 (λ l. scored limit gain (get_or table.now (at + l * n) 0)) vector.old vector.new }
 {
     for l in 0..8 {
-        let v = number(limit, gain, table[at + l * n]);
-        s[o + l] = v;
+        vector[o + l] = number(limit, gain, table[at + l * n]);
     }
 }
 
 // The number of a row: what it earns and 1, with the entry read for it; 0 where it doesn't keep the givens, or the entry counts as none.
+#[tactic(auto, unfolding(column_elimination::specs::Columns::scored))]
 fn number(limit: u16, gain: u16, entry: u16) -> u16
     requires { gain + limit ≤ 65535 }
     ensures { result ≡ scored limit gain entry }
 {
-    if gain == 0 {
-        return 0;
+    if gain == 0 || limit < entry {
+        0
+    } else {
+        gain + entry
     }
-    if limit < entry {
-        return 0;
-    }
-    gain + entry
 }
 
 // Column j, from one vector to the other.
-fn turn(
-    keep: &[u16; 512],
-    w: usize,
-    b: usize,
-    j: usize,
-    s: &mut [u16; VECTOR],
-    d: &mut [u16; VECTOR],
-    masks: &mut [u16; MASKS],
-)
-    requires { (w ≤ max_width) × (b + 8 ≤ 2 ^ w) × (j < w) × (length s.old ≡ 32768) × (length d.old ≡ 32768) × (length masks.old ≡ 512) }
-    ensures by_index { (next : ℕ → ℕ) → Keeps next keep.now → Turned next w b j s.old d.old s.new d.new }
-    ensures s_len { (length s.new ≡ 32768) × (length d.new ≡ 32768) × (length masks.new ≡ 512) }
+fn turn(rows: Rows<'_>, b: usize, j: usize, v: &mut Vectors)
+    requires { (b + 8 ≤ 2 ^ rows.w) × (j < rows.w) }
+    ensures { (next : ℕ → ℕ) → Keeps next rows.entry.keep.now → Turned next rows.entry.w b j v.old.even v.old.odd v.new.even v.new.odd }
 {
-    columns::column_masks(keep, w, b, j, masks);
+    columns::column_masks(rows.keep, rows.w, b, j, &mut v.masks);
     if j % 2 == 0 {
-        columns::column(s, masks, w, j, d);
+        columns::column(&v.even, &v.masks, rows.w, j, &mut v.odd);
     } else {
-        columns::column(d, masks, w, j, s);
+        columns::column(&v.odd, &v.masks, rows.w, j, &mut v.even);
     }
 }
 
 // The last two columns, and the entries.
-fn finish(
-    keep: &[u16; 512],
-    w: usize,
-    n: usize,
-    b: usize,
-    s: &[u16; VECTOR],
-    d: &[u16; VECTOR],
-    last: &mut [u16; LAST_MASKS],
-    table: &mut [u16],
-    target: usize,
-)
-    requires { (w ≤ max_width) × (n ≡ 2 ^ w) × (b + 8 ≤ 2 ^ w) × (length last.old ≡ 128) × (target + 2 ^ w * 2 ^ w ≤ length table.old) }
-    ensures by_index { (next : ℕ → ℕ) → Keeps next keep.now → Ended next w b target (front w s.now d.now) table.old table.new }
-    ensures table_len_unchanged { (length table.new ≡ length table.old) × (length last.new ≡ 128) }
+fn finish(rows: Rows<'_>, b: usize, v: &mut Vectors, table: &mut [u16], target: usize)
+    requires { (b + 8 ≤ 2 ^ rows.w) × (target + 2 ^ rows.w * 2 ^ rows.w ≤ length table.old) }
+    ensures { (next : ℕ → ℕ) → Keeps next rows.entry.keep.now → Ended next rows.entry.w b target (front rows.entry.w v.old.even v.old.odd) table.old table.new }
 {
-    columns::last_masks(keep, w, b, last);
-    if w % 2 == 0 {
-        write_all(s, last, n, table, target, b);
+    columns::last_masks(rows.keep, rows.w, b, &mut v.last);
+    if rows.w % 2 == 0 {
+        write_all(&v.even, &v.last, rows.n, table, target, b);
     } else {
-        write_all(d, last, n, table, target, b);
+        write_all(&v.odd, &v.last, rows.n, table, target, b);
     }
 }
 
@@ -223,12 +213,12 @@ fn write_eight(src: &[u16; VECTOR], last: &[u16; LAST_MASKS], a: usize, table: &
             src[x + 8 + l] & last[m + 8 + l],
             src[x + 24 + l] & last[m + 24 + l],
         );
-        let e = entry_of(columns::top(u, v));
-        table[o + l] = e;
+        table[o + l] = entry_of(columns::top(u, v));
     }
 }
 
 // The entry of a number.
+#[tactic(auto, unfolding(column_elimination::specs::Columns::entry_in))]
 fn entry_of(v: u16) -> u16
     ensures { result ≡ entry_in v }
 {

@@ -6,9 +6,8 @@ mod layer;
 
 ghost use Rattle.std.specs.Prelude.{◌≡◌, false, ◌≤◌};
 ghost use Rattle.board.specs.Boards.{max_width};
-ghost use Rattle.rule.specs.Rule.{entry_of};
-ghost use Rattle.score_table.specs.Calls.{fill_writes};
-ghost use Rattle.layers.specs.Layers.{are_apart, at_once};
+ghost use Rattle.score_table.specs.Calls.{filled};
+ghost use Rattle.layers.specs.Layers.{at_once};
 
 use score_table::{Entries, Grid, Want};
 
@@ -17,52 +16,28 @@ const NARROWEST: usize = 4;
 
 // Fills entries. Where there are no such entries, the memory isn't of a grid of its width and height, or a number could be taken for none, nothing is written.
 pub fn fill(grid: Grid<'_>, entries: Entries, table: &mut [u16])
-    ensures { table.new ≡ fill_writes grid.want (entry_of grid.next.now) grid.width grid.height entries.after entries.source entries.target entries.from entries.count grid.givens.now table.old }
+    ensures { table.new ≡ filled grid.entry entries table.old }
 {
     if !score_table::fill_fits(grid, entries, table.len()) {
         return;
     }
     if by_columns(grid.want, grid.width, entries) {
-        layer::fill(grid, entries.after, entries.source, entries.target, table);
-        return;
+        layer::fill(grid, entries, table);
+    } else {
+        score_table::fill(grid, entries, table);
     }
-    score_table::fill(grid, entries, table);
 }
 
 // Whether so many entries are a whole layer that is filled at once: one above the last, apart from the layer that it reads, the greatest sums are
 // wanted, a row's cells are its number's digits, and rows stay as they are.
+#[tactic(auto, unfolding(crate::specs::Layers::at_once))]
 fn by_columns(want: Want, w: usize, entries: Entries) -> bool
     requires { want.halves ≡ false → w ≤ max_width }
     ensures { result ≡ at_once want w entries.after entries.source entries.target entries.count }
 {
-    if want.least {
-        return false;
-    }
-    if want.halves {
-        return false;
-    }
-    if want.predecessor {
-        return false;
-    }
-    if w < NARROWEST {
-        return false;
-    }
-    if entries.after == 0 {
+    if want.least || want.halves || want.predecessor || w < NARROWEST || entries.after == 0 {
         return false;
     }
     let q = board::table_size(w, 1);
-    if entries.count != q {
-        return false;
-    }
-    apart(entries.source, entries.target, q)
-}
-
-// Whether two layers of q entries lie apart.
-fn apart(source: usize, target: usize, q: usize) -> bool
-    ensures { result ≡ are_apart source target q }
-{
-    if source < target {
-        return q <= target - source;
-    }
-    q <= source - target
+    entries.count == q && q <= entries.source.abs_diff(entries.target)
 }

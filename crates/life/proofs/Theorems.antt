@@ -6,6 +6,7 @@ use Prim.Native.Nat.{ℕ}
 use lib.Dec.{eqb}
 use lib.IntN.{ℤ}
 use lib.ListN.{length}
+use Rattle.std.specs.Prelude.{Option, None, Some, Result, Ok, Err}
 use Rattle.board.specs.Answers.{gives, refuse_unless}
 use Rattle.board.specs.Boards.{Bytes, Board}
 use Rattle.board.proofs.Answers.{refuses_none, then_gives}
@@ -14,7 +15,8 @@ use Rattle.rule.specs.declared.Rule.{Rule}
 use Rattle.rule.proofs.Rules.{dead_stays, conway_state}
 use Rattle.life.specs.Plane.{Plane, on_plane, neighbours, step_under, table_step, Still, LeadsTo, StillBy, LeadsToBy}
 use Rattle.life.specs.Calls.{life_check, ring_size, step_rule, step_writes, judged, judge_rule, verdict_says, still, changes}
-use Rattle.life.specs.declared.Verdict.{Verdict}
+use Rattle.board.specs.declared.Refusal.{Refusal}
+use Rattle.life.specs.declared.Change.{Change}
 use Rattle.life.specs.Theorems.{FirstChange, JudgeRightBy, LifeCheckRight, JudgeRight, StepRight, StillByRows, StepsByRows, ConwaySteps, ForEveryTable}
 use Rattle.life.proofs.OnPlane.{plane_small}
 use Rattle.life.proofs.Checking.{taken, taken_passes}
@@ -69,15 +71,15 @@ module _ (rule : Rule) {w h : ℕ} {cells : List ℕ} (b : Bytes 1 w h cells) wh
       }
 
 -- a verdict is told by what it says
-says_still : (v : Verdict) → verdict_says v ≡ still → v ≡ Verdict.Still
-says_still Verdict.Still e = refl
-says_still (Verdict.Changes r c) e = absurd (no_change (sym e))
-says_still (Verdict.Refused x) e = absurd (refuses_none e)
+says_still : (v : Result (Option Change) Refusal) → verdict_says v ≡ still → v ≡ Ok None
+says_still (Ok None) e = refl
+says_still (Ok (Some cell)) e = absurd (no_change (sym e))
+says_still (Err x) e = absurd (refuses_none e)
 
-says_changes : (v : Verdict) (r c : ℕ) → verdict_says v ≡ changes r c → v ≡ Verdict.Changes r c
-says_changes Verdict.Still r c e = absurd (no_change e)
-says_changes (Verdict.Changes s d) r c e = let er : s ≡ r = cc in let ec : d ≡ c = cc in ap₂ Verdict.Changes er ec
-says_changes (Verdict.Refused x) r c e = absurd (refuses_none e)
+says_changes : (v : Result (Option Change) Refusal) (r c : ℕ) → verdict_says v ≡ changes r c → v ≡ Ok (Some (record { row = r; column = c }))
+says_changes (Ok None) r c e = absurd (no_change e)
+says_changes (Ok (Some cell)) r c e = let er : cell.row ≡ r = cc in let ec : cell.column ≡ c = cc in ap₂ (λ (s d : ℕ). Ok (Some (record { row = s; column = d }))) er ec
+says_changes (Err x) r c e = absurd (refuses_none e)
 
 -- a verdict is of an allowed rule and a board, and is what judging finds of them
 module _ (rule : Rule) (w h : ℕ) (cells : List ℕ) where

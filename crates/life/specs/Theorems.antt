@@ -1,6 +1,6 @@
 -- What is proved of the step, the judge and the rows, over the definitions that the contracts cite.
 -- Assumes nothing.
-use Rattle.std.specs.Prelude.{◌≡◌, ◌↔◌, ◌⊎◌, List, ℕ, ◌+◌, ◌^◌, ◌<◌, ◌≤◌, ℤ, pos, negsuc, length}
+use Rattle.std.specs.Prelude.{◌≡◌, ◌↔◌, ◌⊎◌, List, ℕ, ◌+◌, ◌^◌, ◌<◌, ◌≤◌, ℤ, pos, negsuc, length, Option, None, Some, Result, Ok}
 use Rattle.std.proofs.Math.IntN.{suc_ℤ}
 use Rattle.board.specs.Answers.{passed}
 use Rattle.board.specs.Boards.{Bytes, Board}
@@ -9,7 +9,8 @@ use Rattle.rule.specs.declared.Rule.{Rule}
 use Rattle.life.specs.Plane.{Plane, on_plane, three, step_under, life_step, table_step, Still, LeadsTo, StillBy, LeadsToBy}
 use Rattle.life.specs.Rows.{RowsAgree, RowsStepTo, cell_of, window}
 use Rattle.life.specs.Calls.{life_check, stepped, judged, step_rule, step_writes, judge_rule, verdict_says, still, changes}
-use Rattle.life.specs.declared.Verdict.{Verdict}
+use Rattle.board.specs.declared.Refusal.{Refusal}
+use Rattle.life.specs.declared.Change.{Change}
 
 -- ---- for every next-state table whose pattern 0 stays dead
 -- cell (r, c) stands before cell (s, d) in reading order
@@ -53,13 +54,14 @@ ForEveryTable = (next : ℕ → ℕ) → next 0 ≡ 0 → JudgeRightBy next × S
 abbrev pub LifeCheckRight : Type 0
 LifeCheckRight = (rule : Rule) (w h : ℕ) (cells : List ℕ) → life_check rule w h cells ≡ passed ↔ Allowed rule × Board w h cells
 
--- of what `judge` hands back, by its contract: "still" exactly for an allowed rule and a board that is still under it,
+-- of what `judge` hands back, by its contract: no change exactly for an allowed rule and a board that is still under it,
 -- a cell exactly when it is the first that changes
 abbrev pub JudgeRight : Type 0
 JudgeRight =
-    (rule : Rule) (w h : ℕ) (cells : List ℕ) (v : Verdict) → verdict_says v ≡ judge_rule rule w h cells →
-    (v ≡ Verdict.Still ↔ Allowed rule × Board w h cells × Still rule (on_plane w h cells)) ×
-    ((r c : ℕ) → v ≡ Verdict.Changes r c ↔ Allowed rule × Board w h cells × FirstChange (step_under rule) w h (on_plane w h cells) r c)
+    (rule : Rule) (w h : ℕ) (cells : List ℕ) (v : Result (Option Change) Refusal) → verdict_says v ≡ judge_rule rule w h cells →
+    (v ≡ Ok None ↔ Allowed rule × Board w h cells × Still rule (on_plane w h cells)) ×
+    ((r c : ℕ) →
+    v ≡ Ok (Some (record { row = r; column = c })) ↔ Allowed rule × Board w h cells × FirstChange (step_under rule) w h (on_plane w h cells) r c)
 
 -- of what a step that passes, so of an allowed rule and a board, leaves in the buffer: it is the next plane
 abbrev pub StepRight : Type 0

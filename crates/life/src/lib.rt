@@ -6,8 +6,9 @@ use rule::Rule;
 
 mod plane;
 
-ghost use Rattle.std.specs.Prelude.{◌≡◌, length};
+ghost use Rattle.std.specs.Prelude.{◌≡◌, IfOk, length};
 ghost use Rattle.board.specs.Answers.{check_says};
+ghost use Rattle.board.specs.Boards.{Board};
 ghost use Rattle.life.specs.Calls.{verdict_says, life_check, judge_rule, step_rule, step_writes};
 
 // A cell that changes, by its row and column, which count the ring.
@@ -19,6 +20,7 @@ pub struct Change {
 
 // Steps a board once under a rule: writes the next pattern, ring included, into exactly (w + 2) × (h + 2) bytes.
 // Refusals 1, 2, 13, 5, 11, 10.
+#[tactic(auto, unfolding(crate::specs::Calls::step_rule, crate::specs::Calls::step_writes))]
 pub fn step(rule: Rule, w: usize, h: usize, cells: &[u8], ring: &mut [u8]) -> Result<(), Refusal>
     ensures { (check_says result ≡ step_rule rule w h cells.now (length ring.old)) ×
         (ring.new ≡ step_writes rule w h cells.now ring.old) }
@@ -34,6 +36,7 @@ pub fn step(rule: Rule, w: usize, h: usize, cells: &[u8], ring: &mut [u8]) -> Re
 
 // Judges a board under a rule: the first cell in reading order, ring counted, that one step changes, or none where the board is still.
 // Refusals 1, 2, 13, 5, 11.
+#[tactic(auto, unfolding(crate::specs::Calls::judge_rule))]
 pub fn judge(rule: Rule, w: usize, h: usize, cells: &[u8]) -> Result<Option<Change>, Refusal>
     ensures { verdict_says result ≡ judge_rule rule w h cells.now }
 {
@@ -43,8 +46,10 @@ pub fn judge(rule: Rule, w: usize, h: usize, cells: &[u8]) -> Result<Option<Chan
 }
 
 // 1, 2, 13, 5, 11: the size, the rule, then the cells.
+#[tactic(auto, unfolding(crate::specs::Calls::life_check))]
 fn check_life(rule: Rule, w: usize, h: usize, cells: &[u8]) -> Result<(), Refusal>
-    ensures { check_says result ≡ life_check rule w h cells.now }
+    ensures says { check_says result ≡ life_check rule w h cells.now }
+    ensures board { IfOk result (λ u. Board w h cells.now) }
 {
     rule::check(false, rule, w, h)?;
     board::check_cells(w, h, cells)

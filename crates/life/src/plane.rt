@@ -68,7 +68,8 @@ pub fn first_change(next: &[u8; 512], w: usize, h: usize, cells: &[u8]) -> Optio
 
 // The next pattern, ring included, into a buffer of its length.
 pub fn write_step(next: &[u8; 512], w: usize, h: usize, cells: &[u8], ring: &mut [u8])
-    requires { Board w h cells.now × (length ring.old ≡ ring_size w h) }
+    requires board { Board w h cells.now }
+    requires ring { length ring.old ≡ ring_size w h }
     ensures { ring.new ≡ stepped (entry_of next.now) w h cells.now }
 {
     for k in 0..ring.len() {

@@ -3,12 +3,14 @@
 use mathlib.Core.Path.{◌≡◌, refl, ◌∙◌, sym, ap}
 use mathlib.Core.Bool.{Bool, true, false, cond, ◌&&◌}
 use mathlib.Core.List.{List}
+use Rattle.std.specs.Prelude.{Option, None, Some}
 use Prim.Native.Nat.{ℕ, suc, ◌+◌, ◌-◌, ◌*◌, ◌^◌, ◌<◌, ◌≤◌}
+use native.Mathlib.Nat.{mul-le-mul, mul-le-mul_right}
 use native.Mathlib.Omega.{arith}
 use borrow.Author.Tests.{le-leb, lt-leb, lt-ltb, le-ltb, eq-eqb, ne_eqb, leb-true, leb-false, ltb-true, ltb-false, eqb-true, eqb-false}
 use lib.Dec.{eqb, leb, ltb}
 use lib.ListN.{length}
-use Rattle.board.specs.Boards.{max_height, max_mirror_width, width_fits}
+use Rattle.board.specs.Boards.{max_width, max_height, max_mirror_width, width_fits}
 use Rattle.board.proofs.Tests.{and_left, and_right}
 use Rattle.elimination.specs.Candidates.{Choice, nothing, chosen}
 use Rattle.elimination.specs.Kind.{choose}
@@ -19,7 +21,7 @@ use Rattle.score_table.specs.ScoreTable.{absent, kind_for}
 use Rattle.score_table.specs.Inner.{Memory, EntriesRead}
 use Rattle.score_table.specs.Calls.{grid_fits, call_fits, layer_fits, fill_fits, fill_writes, gain_of, row_picked, picked_of}
 use Rattle.score_table.specs.declared.Want.{Want}
-use Rattle.score_table.specs.declared.Picked.{Picked}
+use Rattle.board.specs.declared.ChosenRow.{ChosenRow}
 
 -- ---- a layer, as the code tests it
 pub layer_short : (bits n at : ℕ) → n < 4 ^ bits → false ≡ layer_fits bits n at
@@ -85,6 +87,15 @@ module _ (w h r c : ℕ) (g : List ℕ) where
       unfolding gain_of row_gain
       gain_kept k = rw (e, lt-ltb r h l, k) (omega arith)
 
+      -- the row's cells are within the memory
+      pub gain_room : (w ≤ max_mirror_width) × (r * w + w ≤ length g)
+      gain_room =
+          let M = grid_of false w h g e in
+          (width_le false w M.width, omega (arith, M.marks, mul-le-mul_right w l))
+
+      pub gain_small : r * w ≤ max_mirror_width * max_height
+      gain_small = let M = grid_of false w h g e in omega (arith, mul-le-mul (width_le false w M.width) M.low, mul-le-mul_right w l)
+
       pub gain_row : gain_of w h r c g ≡ row_gain w g (r * w) c
       unfolding gain_of
       gain_row = rw (e, lt-ltb r h l)
@@ -109,6 +120,10 @@ module _ (want : Want) (w h : ℕ) (g : List ℕ) where
 
   pub call_small : call_fits want w h g ≡ true → want.limit + w < absent
   call_small e = ltb-true (want.limit + w) absent (and_right (grid_fits want.halves w h g) (ltb (want.limit + w) absent) e)
+
+  -- past the tests a row's number is short
+  pub call_narrow : {fits : Bool} {bits : ℕ} → fits ≡ call_fits want w h g → fits ≡ true → bits ≡ digits_of want w → bits ≤ max_width
+  call_narrow e f b = rw b (call_memory (sym e ∙ f)).width.narrow
 
   -- ---- the filling of entries
   module _ (k source target j m n : ℕ) where
@@ -191,32 +206,32 @@ module _ (want : Want) (w h : ℕ) (g : List ℕ) where
 
   -- ---- the choice of a row
   module _ (next : ℕ → ℕ) (r source above last : ℕ) (t : List ℕ) where
-    abbrev wanted : Picked
+    abbrev wanted : Option ChosenRow
     wanted = picked_of want w g r (row_picked want next w h r source above last g t)
 
     abbrev choice : Choice ℕ
     choice = choose (kind_for want next w h g) (h - suc r) above last (reads (kind_for want next w h g) t source last)
 
-    pub picks_unfit : call_fits want w h g ≡ false → Picked.Nothing ≡ wanted
+    pub picks_unfit : call_fits want w h g ≡ false → None ≡ wanted
     unfolding row_picked
     picks_unfit e = rw e
 
     module _ (e : call_fits want w h g ≡ true) where
-      pub picks_past : h ≤ r → Picked.Nothing ≡ wanted
+      pub picks_past : h ≤ r → None ≡ wanted
       unfolding row_picked
       picks_past l = rw (e, le-ltb r h l)
 
       module _ (l : r < h) where
-        pub picks_short : layer_fits (digits_of want w) (length t) source ≡ false → Picked.Nothing ≡ wanted
+        pub picks_short : layer_fits (digits_of want w) (length t) source ≡ false → None ≡ wanted
         unfolding row_picked
         picks_short f = rw (e, lt-ltb r h l, f)
 
         module _ (f : layer_fits (digits_of want w) (length t) source ≡ true) where
-          pub picks_above : 2 ^ digits_of want w ≤ above → Picked.Nothing ≡ wanted
+          pub picks_above : 2 ^ digits_of want w ≤ above → None ≡ wanted
           unfolding row_picked
           picks_above m = rw (e, lt-ltb r h l, f, le-ltb above (2 ^ digits_of want w) m)
 
-          pub picks_last : above < 2 ^ digits_of want w → 2 ^ digits_of want w ≤ last → Picked.Nothing ≡ wanted
+          pub picks_last : above < 2 ^ digits_of want w → 2 ^ digits_of want w ≤ last → None ≡ wanted
           unfolding row_picked
           picks_last m n = rw (e, lt-ltb r h l, f, lt-ltb above (2 ^ digits_of want w) m, le-ltb last (2 ^ digits_of want w) n)
 
@@ -228,12 +243,12 @@ module _ (want : Want) (w h : ℕ) (g : List ℕ) where
             pub picks_choice : {o : Choice ℕ} → o ≡ choice → picked_of want w g r o ≡ wanted
             picks_choice q = ap (picked_of want w g r) (q ∙ sym picked_choice)
 
-            pub picks_row : {c n x : ℕ} → chosen c n ≡ choice → x ≡ row_worth w (marks_of want.predecessor g) (r * w) (row_for want w c) → Picked.Row c x ≡ wanted
+            pub picks_row : {c n x : ℕ} → chosen c n ≡ choice → x ≡ row_worth w (marks_of want.predecessor g) (r * w) (row_for want w c) → Some (record { row = c; worth = x }) ≡ wanted
             picks_row q e = rw e (picks_choice q)
 
 -- ---- what the answer tells of the choice
 module _ (want : Want) (w : ℕ) (g : List ℕ) (r : ℕ) where
-  pub picked_nothing : (o : Choice ℕ) → Picked.Nothing ≡ picked_of want w g r o → o ≡ nothing
+  pub picked_nothing : (o : Choice ℕ) → None ≡ picked_of want w g r o → o ≡ nothing
   picked_nothing nothing e = refl
   picked_nothing (chosen c n) e = absurd (let z : ◌≡◌ {A = ℕ} 0 1 = cc in omega arith)
 
@@ -243,9 +258,10 @@ module _ (want : Want) (w : ℕ) (g : List ℕ) (r : ℕ) where
     pub is : o ≡ chosen c sum
     pub worth : x ≡ row_worth w (marks_of want.predecessor g) (r * w) (row_for want w c)
 
-  pub picked_row : (o : Choice ℕ) (c x : ℕ) → Picked.Row c x ≡ picked_of want w g r o → PickedRow o c x
-  picked_row nothing c x e = absurd (let z : ◌≡◌ {A = ℕ} 0 1 = cc in omega arith)
-  picked_row (chosen d n) c x e =
-      let p : c ≡ d = cc in
-      let q : x ≡ row_worth w (marks_of want.predecessor g) (r * w) (row_for want w d) = cc in
-      record { sum = n; is = rw p; worth = rw p q }
+  pub picked_row : (o : Choice ℕ) (row : ChosenRow) → Some row ≡ picked_of want w g r o → PickedRow o row.row row.worth
+  picked_row nothing row e = absurd (let z : ◌≡◌ {A = ℕ} 0 1 = cc in omega arith)
+  picked_row (chosen d n) row e =
+      let p : row ≡ record { row = d; worth = row_worth w (marks_of want.predecessor g) (r * w) (row_for want w d) } = cc in
+      let c : row.row ≡ d = ap (λ (x : ChosenRow). x.row) p in
+      let q : row.worth ≡ row_worth w (marks_of want.predecessor g) (r * w) (row_for want w d) = ap (λ (x : ChosenRow). x.worth) p in
+      record { sum = n; is = rw c; worth = rw c q }

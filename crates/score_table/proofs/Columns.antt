@@ -82,3 +82,8 @@ pub passes_is : (next : ℕ → ℕ) (w a b c t j : ℕ) → a < 2 ^ w → b < 2
 passes_is next w a b c t j la lb lc lt lj =
     let e = split (window w t j / 2 % 2) (window w a j) (window w b j) (window w c j) (mod-lt (window w t j / 2) (lit< tt)) (window_lt w a j) (window_lt w b j) (window_lt w c j) in
     rw (e.0, e.1) (sym (becomes_is next w a b c t j la lb lc lt lj))
+
+-- the same of a column's number that was computed, for columns 0 to w + 1
+pub passes_by : (next : ℕ → ℕ) (w a b c t j : ℕ) {column : ℕ} → a < 2 ^ w → b < 2 ^ w → c < 2 ^ w → t < 2 ^ w → j < w + 2 → column ≡ column_of w a b t j
+    → passes next w column c j ≡ becomes next w a b c t j
+passes_by next w a b c t j la lb lc lt lj e = rw e (passes_is next w a b c t j la lb lc lt (omega arith))

@@ -5,6 +5,6 @@ pub mod WholeRows
 pub mod Skipping
 pub mod Scanning
 pub mod Places
-pub mod Entries
-pub mod Targets
 pub mod Calls
+pub mod EntryLaws
+pub mod Targets

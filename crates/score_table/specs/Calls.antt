@@ -3,12 +3,15 @@
 -- Assumes nothing.
 use Rattle.std.specs.Prelude.{Bool, true, false, cond, ◌&&◌, List, ℕ, suc, ◌+◌, ◌-◌, ◌*◌, ◌^◌, eqb, leb, ltb, length, Option, None, Some}
 use Rattle.board.specs.Boards.{max_height, width_fits}
+use Rattle.rule.specs.Rule.{entry_of}
 use Rattle.elimination.specs.Candidates.{Choice, nothing, chosen}
 use Rattle.elimination.specs.Kind.{choose}
 use Rattle.elimination.specs.Table.{reads, fill_entries}
 use Rattle.score_table.specs.Rows.{row_worth, row_gain, marks_of, digits_of, row_for}
 use Rattle.score_table.specs.ScoreTable.{absent, kind_for}
 use Rattle.score_table.specs.declared.Want.{Want}
+use Rattle.score_table.specs.declared.Grid.{Grid}
+use Rattle.score_table.specs.declared.Entries.{Entries}
 use Rattle.board.specs.declared.ChosenRow.{ChosenRow}
 
 -- the givens are those of a grid of a width that fits how rows are held, and of at most 60 rows
@@ -35,6 +38,13 @@ unfoldable pub fill_writes : Want → (ℕ → ℕ) → ℕ → ℕ → ℕ → 
 fill_writes want next w h k source target j m givens table =
     cond (fill_fits want w h k source target j m givens (length table)) (fill_entries (kind_for want next w h givens) k source target j m table) table
 
+-- the same of a grid and entries as they are lent
+abbrev pub entries_fit : Grid → Entries → ℕ → Bool
+entries_fit grid e n = fill_fits grid.want grid.width grid.height e.after e.source e.target e.from e.count grid.givens.now n
+
+abbrev pub filled : Grid → Entries → List ℕ → List ℕ
+filled grid e table = fill_writes grid.want (entry_of grid.next.now) grid.width grid.height e.after e.source e.target e.from e.count grid.givens.now table
+
 -- what a row earns and 1 as the one with r rows above it, 0 where it doesn't keep the givens there; no row above which there are r, or memory that
 -- doesn't fit, gives 0; of a number of more than w digits the last w are the row
 unfoldable pub gain_of : ℕ → ℕ → ℕ → ℕ → List ℕ → ℕ
@@ -54,3 +64,9 @@ row_picked want next w h r source above last givens table =
 abbrev pub picked_of : Want → ℕ → List ℕ → ℕ → Choice ℕ → Option ChosenRow
 picked_of want w givens r nothing = None
 picked_of want w givens r (chosen c n) = Some (record { row = c; worth = row_worth w (marks_of want.predecessor givens) (r * w) (row_for want w c) })
+
+-- the same of a grid as it is lent
+abbrev pub row_of_grid : Grid → ℕ → ℕ → ℕ → ℕ → List ℕ → Option ChosenRow
+row_of_grid grid r source above last table =
+    picked_of grid.want grid.width grid.givens.now r
+    (row_picked grid.want (entry_of grid.next.now) grid.width grid.height r source above last grid.givens.now table)

@@ -1,13 +1,13 @@
 -- What the inner functions are lent and answer, in the terms of the score table.
 -- Assumes nothing.
-use Rattle.std.specs.Prelude.{◌≡◌, Bool, List, ℕ, ◌+◌, ◌*◌, ◌-◌, ◌/◌, ◌%◌, ◌^◌, ◌≤◌, ◌<◌, eqb, length, get_or, Option, None, Some}
+use Rattle.std.specs.Prelude.{◌≡◌, Bool, List, ℕ, ◌+◌, ◌*◌, ◌-◌, ◌/◌, ◌%◌, ◌^◌, ◌≤◌, ◌<◌, cond, eqb, leb, length, get_or, Option, None, Some}
 use Rattle.board.specs.Boards.{max_height, Width}
 use Rattle.elimination.specs.Candidates.{Choice, nothing, chosen, Comparison}
-use Rattle.elimination.specs.Kind.{Kind, entry}
+use Rattle.elimination.specs.Kind.{Kind, entry, offer_counted}
 use Rattle.elimination.specs.Sums.{sum_worse, sum_kind}
 use Rattle.elimination.specs.Table.{reads}
 use Rattle.life.specs.Rows.{window, steps_to}
-use Rattle.score_table.specs.Rows.{digits_of}
+use Rattle.score_table.specs.Rows.{row_worth, row_kept, marks_of, digits_of}
 use Rattle.score_table.specs.ScoreTable.{rules, kind_for}
 use Rattle.score_table.specs.declared.Want.{Want}
 use Rattle.score_table.specs.declared.best.Best.{Best}
@@ -28,6 +28,12 @@ passes next w column c j = eqb (next ((column + window w c j) % 512)) ((column +
 -- the next number of so many binary digits that differs from x in columns 1 to j + 1
 unfoldable pub skip_to : ℕ → ℕ → ℕ → ℕ
 skip_to bits x j = (x / 2 ^ (bits - (j + 1)) + 1) * 2 ^ (bits - (j + 1))
+
+-- what a row that may stand somewhere by its columns offers, with the number read for it, by the givens that start at a place
+abbrev pub offered : Want → ℕ → List ℕ → ℕ → ℕ → ℕ → Option ℕ
+offered want w givens at row read =
+    cond (row_kept w (marks_of want.predecessor givens) at row)
+    (offer_counted (leb read want.limit) (row_worth w (marks_of want.predecessor givens) at row + read)) None
 
 -- what the search for the best row found, as a choice
 abbrev pub choice_of : Option Best → Choice ℕ

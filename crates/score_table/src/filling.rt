@@ -20,7 +20,7 @@ pub fn layer_size(bits: usize) -> usize
 // The number of entry j of the layer with k rows after it, over the numbers that the table holds in the layer that starts at `source`.
 fn entry_at(grid: Grid<'_>, k: usize, source: usize, j: usize, table: &[u16]) -> u16
     requires { EntriesRead grid.want grid.width grid.height k source j 1 grid.givens.now table.now × (grid.want.limit + grid.width < absent) }
-    ensures { result ≡ entry_over grid.want (entry_of grid.next.now) grid.width grid.height k source j grid.givens.now table.now }
+    ensures { result ≡ entry_over grid.entry.want (entry_of grid.entry.next.now) grid.entry.width grid.entry.height k source j grid.entry.givens.now table.now }
 {
     let w = grid.width;
     let want = grid.want;
@@ -31,13 +31,9 @@ fn entry_at(grid: Grid<'_>, k: usize, source: usize, j: usize, table: &[u16]) ->
     let row = rows::row_for(want, w, b);
     let t = rows::target_row(want.predecessor, w, grid.givens, r, row);
     if k == 0 {
-        if !rows::steps_to(grid.next, w, rows::row_for(want, w, a), row, 0, t) {
-            return NONE;
-        }
-        if !rows::steps_to(grid.next, w, row, 0, 0, 0) {
-            return NONE;
-        }
-        return 0;
+        let ends = rows::steps_to(grid.next, w, rows::row_for(want, w, a), row, 0, t)
+            && rows::steps_to(grid.next, w, row, 0, 0, 0);
+        return if ends { 0 } else { NONE };
     }
     match best::best_row(grid, a, b, t, r * w, table, source + b * n) {
         None => NONE,
@@ -48,7 +44,7 @@ fn entry_at(grid: Grid<'_>, k: usize, source: usize, j: usize, table: &[u16]) ->
 // Writes it into the layer that starts at `target`.
 fn write_entry(grid: Grid<'_>, k: usize, source: usize, target: usize, j: usize, table: &mut [u16])
     requires { EntriesRead grid.want grid.width grid.height k source j 1 grid.givens.now table.old × (grid.want.limit + grid.width < absent) × (target + 4 ^ digits_of grid.want grid.width ≤ length table.old) }
-    ensures { table.new ≡ fill_entry (kind_for grid.want (entry_of grid.next.now) grid.width grid.height grid.givens.now) k source target j table.old }
+    ensures { table.new ≡ fill_entry (kind_for grid.entry.want (entry_of grid.entry.next.now) grid.entry.width grid.entry.height grid.entry.givens.now) k source target j table.old }
 {
     let e = entry_at(grid, k, source, j, table);
     table[target + j] = e;
@@ -57,10 +53,17 @@ fn write_entry(grid: Grid<'_>, k: usize, source: usize, target: usize, j: usize,
 // Writes entries.
 pub fn write_entries(grid: Grid<'_>, entries: Entries, table: &mut [u16])
     requires { EntriesRead grid.want grid.width grid.height entries.after entries.source entries.from entries.count grid.givens.now table.old × (grid.want.limit + grid.width < absent) × (entries.target + 4 ^ digits_of grid.want grid.width ≤ length table.old) }
-    ensures { table.new ≡ fill_entries (kind_for grid.want (entry_of grid.next.now) grid.width grid.height grid.givens.now) entries.after entries.source entries.target entries.from entries.count table.old }
+    ensures { table.new ≡ fill_entries (kind_for grid.entry.want (entry_of grid.entry.next.now) grid.entry.width grid.entry.height grid.entry.givens.now) entries.after entries.source entries.target entries.from entries.count table.old }
 {
-    let first = entries.from;
     for i in 0..entries.count {
-        write_entry(grid, entries.after, entries.source, entries.target, first + i, table);
+        let j = entries.from + i;
+        write_entry(
+            grid,
+            entries.after,
+            entries.source,
+            entries.target,
+            j,
+            table,
+        );
     }
 }

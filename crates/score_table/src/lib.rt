@@ -8,9 +8,8 @@ mod rows;
 
 ghost use Rattle.std.specs.Prelude.{◌≡◌, ◌≤◌};
 ghost use Rattle.board.specs.Boards.{max_width};
-ghost use Rattle.rule.specs.Rule.{entry_of};
 ghost use Rattle.score_table.specs.ScoreTable.{want_of};
-ghost use Rattle.score_table.specs.Calls.{grid_fits, call_fits, layer_fits, fill_fits, fill_writes, gain_of, row_picked, picked_of};
+ghost use Rattle.score_table.specs.Calls.{grid_fits, call_fits, layer_fits, entries_fit, filled, gain_of, row_of_grid};
 
 use board::ChosenRow;
 
@@ -18,7 +17,7 @@ use board::ChosenRow;
 pub const NONE: u16 = 65535;
 
 // Which of the rows that may stand somewhere is the best, by the sums of their worths and the numbers that the table has for them.
-#[derive(Clone, Copy)]
+#[derive(Clone, Copy, Debug, PartialEq, Eq)]
 pub struct Want {
     // The least sum is wanted, and not the greatest.
     pub least: bool,
@@ -71,7 +70,7 @@ pub fn want_of(halves: bool, target: bool) -> Want
 
 // Fills entries. Where there are no such entries, the memory isn't of a grid of its width and height, or a number could be taken for none, nothing is written.
 pub fn fill(grid: Grid<'_>, entries: Entries, table: &mut [u16])
-    ensures { table.new ≡ fill_writes grid.want (entry_of grid.next.now) grid.width grid.height entries.after entries.source entries.target entries.from entries.count grid.givens.now table.old }
+    ensures { table.new ≡ filled grid.entry entries table.old }
 {
     if fill_fits(grid, entries, table.len()) {
         filling::write_entries(grid, entries, table);
@@ -88,12 +87,9 @@ pub fn choose_row(
     last: usize,
     table: &[u16],
 ) -> Option<ChosenRow>
-    ensures { result ≡ picked_of grid.want grid.width grid.givens.now r (row_picked grid.want (entry_of grid.next.now) grid.width grid.height r source above last grid.givens.now table.now) }
+    ensures { result ≡ row_of_grid grid.entry r source above last table.now }
 {
-    if !fits(grid) {
-        return None;
-    }
-    if grid.height <= r {
+    if !fits(grid) || grid.height <= r {
         return None;
     }
     let w = grid.width;
@@ -103,20 +99,19 @@ pub fn choose_row(
         return None;
     }
     let n = rows::row_codes(bits);
-    if n <= above {
-        return None;
-    }
-    if n <= last {
+    if n <= above || n <= last {
         return None;
     }
     let at = r * w;
     let first = source + last * n;
-    let t = rows::target_row(want.predecessor, w, grid.givens, r, rows::row_for(want, w, last));
+    let b = rows::row_for(want, w, last);
+    let t = rows::target_row(want.predecessor, w, grid.givens, r, b);
     let best = best::best_row(grid, above, last, t, at, table, first)?;
-    let row = best.row;
+    let row = rows::row_for(want, w, best.row);
+    let worth = rows::row_worth(want.predecessor, w, grid.givens, at, row);
     Some(ChosenRow {
-        row,
-        worth: rows::row_worth(want.predecessor, w, grid.givens, at, rows::row_for(want, w, row)),
+        row: best.row,
+        worth,
     })
 }
 
@@ -125,10 +120,7 @@ pub fn choose_row(
 pub fn row_gain(w: usize, h: usize, r: usize, row: usize, givens: &[u8]) -> usize
     ensures { result ≡ gain_of w h r row givens.now }
 {
-    if !grid_fits(false, w, h, givens) {
-        return 0;
-    }
-    if h <= r {
+    if !grid_fits(false, w, h, givens) || h <= r {
         return 0;
     }
     let at = r * w;
@@ -139,27 +131,20 @@ pub fn row_gain(w: usize, h: usize, r: usize, row: usize, givens: &[u8]) -> usiz
 }
 
 // Whether the givens are those of a grid of a width that fits how rows are held, and of at most 60 rows.
+#[tactic(auto, unfolding(crate::specs::Calls::grid_fits))]
 fn grid_fits(halves: bool, w: usize, h: usize, givens: &[u8]) -> bool
     ensures { result ≡ grid_fits halves w h givens.now }
 {
-    if !board::width_fits(halves, w) {
-        return false;
-    }
-    if board::MAX_HEIGHT < h {
-        return false;
-    }
-    givens.len() == w * h
+    board::width_fits(halves, w) && h <= board::MAX_HEIGHT && givens.len() == w * h
 }
 
 // Whether they are, and no number of an entry could be taken for none.
 fn fits(grid: Grid<'_>) -> bool
-    ensures { result ≡ call_fits grid.want grid.width grid.height grid.givens.now }
+    ensures { result ≡ call_fits grid.entry.want grid.entry.width grid.entry.height grid.entry.givens.now }
 {
     let want = grid.want;
-    if !grid_fits(want.halves, grid.width, grid.height, grid.givens) {
-        return false;
-    }
-    want.limit < NONE as usize - grid.width
+    grid_fits(want.halves, grid.width, grid.height, grid.givens)
+        && want.limit < NONE as usize - grid.width
 }
 
 // Whether the layer that starts at a place lies within a table of n entries, where a row's number has so many binary digits.
@@ -168,36 +153,21 @@ fn layer_fits(bits: usize, n: usize, at: usize) -> bool
     ensures { result ≡ layer_fits bits n at }
 {
     let q = filling::layer_size(bits);
-    if n < q {
-        return false;
-    }
-    at <= n - q
+    q <= n && at <= n - q
 }
 
 // Whether there are such entries to fill in a table of n entries.
 pub fn fill_fits(grid: Grid<'_>, entries: Entries, n: usize) -> bool
-    ensures { result ≡ fill_fits grid.want grid.width grid.height entries.after entries.source entries.target entries.from entries.count grid.givens.now n }
+    ensures { result ≡ entries_fit grid.entry entries n }
 {
-    if !fits(grid) {
+    if !fits(grid) || grid.height <= entries.after {
         return false;
     }
-    if grid.height <= entries.after {
-        return false;
-    }
-    let want = grid.want;
-    let bits = board::row_digits(want.halves, grid.width);
+    let bits = board::row_digits(grid.want.halves, grid.width);
     let q = filling::layer_size(bits);
-    if q < entries.count {
+    if q < entries.count || q - entries.count < entries.from {
         return false;
     }
-    if q - entries.count < entries.from {
-        return false;
-    }
-    if !layer_fits(bits, n, entries.target) {
-        return false;
-    }
-    if entries.after == 0 {
-        return true;
-    }
-    layer_fits(bits, n, entries.source)
+    layer_fits(bits, n, entries.target)
+        && (entries.after == 0 || layer_fits(bits, n, entries.source))
 }

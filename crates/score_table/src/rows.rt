@@ -1,6 +1,7 @@
 // Rows as numbers: a row's cells are its binary digits, the leftmost most significant; or the number is its left half, and its reflection follows.
-ghost use Rattle.std.specs.Prelude.{◌≡◌, true, ◌+◌, ◌*◌, ◌<◌, ◌≤◌, ◌^◌, ◌/◌, ◌%◌, length, get_or};
+ghost use Rattle.std.specs.Prelude.{◌≡◌, ℕ, true, ◌+◌, ◌*◌, ◌<◌, ◌≤◌, ◌^◌, ◌/◌, ◌%◌, length, get_or};
 ghost use Rattle.board.specs.Boards.{max_width, max_mirror_width, max_height, Width};
+ghost use Rattle.board.specs.Search.{first_not};
 ghost use Rattle.rule.specs.Rule.{entry_of};
 ghost use Rattle.life.specs.Rows.{window, steps_to};
 ghost use Rattle.score_table.specs.Inner.{column_of, Columns, passes};
@@ -69,7 +70,7 @@ pub fn columns(w: usize, a: usize, b: usize, t: usize) -> [usize; COLUMNS]
 }
 
 // Whether with c below it the cell of b becomes that of t, by the column of both.
-pub fn passes(next: &[u8; 512], w: usize, column: usize, c: usize, j: usize) -> bool
+fn passes(next: &[u8; 512], w: usize, column: usize, c: usize, j: usize) -> bool
     requires { (w ≤ max_mirror_width) × (column < 1024) × (c < 2 ^ w) × (j ≤ w + 1) }
     ensures { result ≡ passes (entry_of next.now) w column c j }
 {
@@ -77,22 +78,39 @@ pub fn passes(next: &[u8; 512], w: usize, column: usize, c: usize, j: usize) -> 
     next[p % 512] == (p / 512) as u8
 }
 
+// The first column in which with c below it the cell of b doesn't become that of t, by the columns of both.
+pub fn first_failing(
+    next: &[u8; 512],
+    w: usize,
+    columns: &[usize; COLUMNS],
+    c: usize,
+) -> Option<usize>
+    requires { (w ≤ max_mirror_width) × (c < 2 ^ w) × ((j : ℕ) → j < w + 2 → get_or columns.now j 0 < 1024) }
+    ensures { result ≡ first_not (λ j. passes (entry_of next.now) w (get_or columns.now j 0) c j) (w + 2) }
+{
+    for (j, column) in columns[..w + 2].iter().enumerate() {
+        if !passes(next, w, *column, c, j) {
+            return Some(j);
+        }
+    }
+    None
+}
+
 // Whether rows a, b, c step to row t in the middle, and the ring beside it stays dead; with t = b, whether they agree.
 pub fn steps_to(next: &[u8; 512], w: usize, a: usize, b: usize, c: usize, t: usize) -> bool
     requires { (w ≤ max_mirror_width) × (a < 2 ^ w) × (b < 2 ^ w) × (c < 2 ^ w) × (t < 2 ^ w) }
     ensures { result ≡ steps_to (entry_of next.now) w a b c t }
 {
-    let mut j = 0;
-    while j != w + 2 {
+    for j in 0..w + 2 {
         if !passes(next, w, column(w, a, b, t, j), c, j) {
             return false;
         }
-        j += 1;
     }
     true
 }
 
 // Whether a cell keeps its mark.
+#[tactic(auto, unfolding(crate::specs::Rows::mark_kept))]
 fn mark_kept(mark: u8, cell: usize) -> bool
     ensures { result ≡ mark_kept mark cell }
 {
@@ -125,12 +143,12 @@ pub fn row_kept(target: bool, w: usize, givens: &[u8], at: usize, row: usize) ->
 }
 
 // What a cell earns: a live cell counts unless it was given.
+#[tactic(auto, unfolding(crate::specs::Rows::cell_worth))]
 fn cell_worth(mark: u8, cell: usize) -> usize
     ensures { (result ≡ cell_worth mark cell) × (result ≤ cell) }
 {
     match mark {
-        1 => 0,
-        2 => 0,
+        1 | 2 => 0,
         _ => cell,
     }
 }
@@ -165,8 +183,8 @@ fn lent_row(w: usize, lent: &[u8], i: usize) -> usize
     }
     let at = (i - 1) * w;
     let mut t = 0;
-    for k in 0..w {
-        t = 2 * t + (lent[at + k] % 2) as usize;
+    for cell in &lent[at..at + w] {
+        t = 2 * t + (*cell % 2) as usize;
     }
     t
 }

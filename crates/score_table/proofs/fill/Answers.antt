@@ -4,12 +4,12 @@ use mathlib.Core.Path.{◌∙◌, sym}
 use Rattle.score_table.proofs.Calls.{fits_read, fill_unfit, fill_done}
 use Rattle.score_table.proofs.fill.Goals as goal
 
-pub returns-then-not-fill_fits : goal.returns-then-not-fill_fits
-returns-then-not-fill_fits c = fill_unfit _ _ _ _ _ _ _ _ _ _ _ (sym c.fill_fits.ensures ∙ c.if-not-fill_fits.true)
-
 pub write_entries-requires : goal.write_entries-requires
-write_entries-requires c = fits_read _ _ _ _ _ _ _ _ _ _ (sym c.fill_fits.ensures ∙ c.if-not-fill_fits.false)
+write_entries-requires c = fits_read _ _ _ _ _ _ _ _ _ _ (sym c.fill_fits.ensures ∙ c.if-fill_fits.true)
 
-pub returns : goal.returns
-returns c =
-    c.write_entries.ensures ∙ fill_done _ _ _ _ _ _ _ _ _ _ _ (sym c.fill_fits.ensures ∙ c.if-not-fill_fits.false)
+pub returns-then-fill_fits : goal.returns-then-fill_fits
+returns-then-fill_fits c =
+    c.write_entries.ensures ∙ fill_done _ _ _ _ _ _ _ _ _ _ _ (sym c.fill_fits.ensures ∙ c.if-fill_fits.true)
+
+pub returns-else-fill_fits : goal.returns-else-fill_fits
+returns-else-fill_fits c = fill_unfit _ _ _ _ _ _ _ _ _ _ _ (sym c.fill_fits.ensures ∙ c.if-fill_fits.false)

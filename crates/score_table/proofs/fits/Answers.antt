@@ -3,14 +3,8 @@
 use mathlib.Core.Path.{◌∙◌, sym}
 use borrow.Author.Rules.{rules}
 use Rattle.board.proofs.Widths.{width_le}
-use Rattle.score_table.proofs.Calls.{grid_of, call_unfit, call_numbers}
+use Rattle.score_table.proofs.Calls.{grid_of}
 use Rattle.score_table.proofs.fits.Goals as goal
 
-pub returns-then-not-grid_fits : goal.returns-then-not-grid_fits
-returns-then-not-grid_fits c = call_unfit c.args.want _ _ _ (sym c.grid_fits.ensures ∙ c.if-not-grid_fits.true)
-
 pub overflow_sub-result : goal.overflow_sub-result
-overflow_sub-result c = let m = width_le _ _ (grid_of _ _ _ _ (sym c.grid_fits.ensures ∙ c.if-not-grid_fits.false)).width in search rules
-
-pub returns : goal.returns
-returns c = call_numbers c.args.want _ _ _ (sym c.grid_fits.ensures ∙ c.if-not-grid_fits.false)
+overflow_sub-result c = let m = width_le _ _ (grid_of _ _ _ _ (sym c.grid_fits.ensures ∙ c.if-grid_fits.true)).width in search rules
