@@ -40,7 +40,16 @@ fn print_status(status: Status) {
 fn print_numbers(n: Checkpoint) {
     report::text(b"paused:");
     let fields = [
-        n.width, n.height, n.units, n.above, n.last, n.live, n.mark, n.births, n.survivals, n.kind,
+        n.width,
+        n.height,
+        n.units,
+        n.above,
+        n.last,
+        n.live,
+        n.mark,
+        n.births,
+        n.survivals,
+        n.kind,
     ];
     for x in fields {
         report::text(b" ");

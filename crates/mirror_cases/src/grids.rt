@@ -2,7 +2,7 @@
 use board::Refusal;
 use job_kind::Kind;
 use trials::runs::Runs;
-use trials::{Case, Rules, Size, plain, runs};
+use trials::{Case, Rules, Size, count, plain, runs};
 
 // What was tried of a group of grids.
 #[derive(Clone, Copy, Default)]
@@ -88,10 +88,6 @@ fn try_random(name: &[u8], rules: Rules) {
     print(name, c);
 }
 
-fn count(n: &mut usize) {
-    *n = n.wrapping_add(1);
-}
-
 // A grid with an edge three is turned away, and enumeration finds no board; any other is run, and turned away once a mark is altered.
 fn try_grid(case: &Case, c: &mut Counts) {
     let best = plain::best_board(case);
@@ -99,7 +95,7 @@ fn try_grid(case: &Case, c: &mut Counts) {
     if let Some(place) = case.edge_three() {
         count(&mut c.edges);
         if best.is_some() || !case.is_turned_away(Refusal::EdgeThree(place)) {
-            c.edges_wrong = c.edges_wrong.wrapping_add(case.differs(b"an edge three"));
+            case.differs(b"an edge three", &mut c.edges_wrong);
         }
         return;
     }
@@ -120,7 +116,7 @@ fn try_lopsided(case: &Case, c: &mut Counts) {
     count(&mut c.lopsided);
     let others = [Kind::Ordinary, Kind::TwoLayers];
     if !lopsided.is_turned_away(refusal) || !others.iter().all(|kind| is_taken(&lopsided, *kind)) {
-        c.lopsided_wrong = c.lopsided_wrong.wrapping_add(lopsided.differs(b"lopsided marks"));
+        lopsided.differs(b"lopsided marks", &mut c.lopsided_wrong);
     }
 }
 

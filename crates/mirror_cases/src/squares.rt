@@ -53,10 +53,12 @@ fn print(s: Size, job: Job, board: &[u8]) {
         None => b", mirror",
         Some(_) => b", not mirror",
     });
-    report::text(match plain::first_unlike(rule::conway(), s.w, s.h, board, board) {
-        None => b", still\n",
-        Some(_) => b", not still\n",
-    });
+    report::text(
+        match plain::first_unlike(rule::conway(), s.w, s.h, board, board) {
+            None => b", still\n",
+            Some(_) => b", not still\n",
+        },
+    );
 }
 
 fn print_score(score: usize, live: usize) {

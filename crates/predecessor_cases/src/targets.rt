@@ -3,7 +3,7 @@ use crate::plain;
 use job_kind::Kind;
 use rule::Rule;
 use trials::runs::Runs;
-use trials::{Case, Rules, Size, runs};
+use trials::{Case, Rules, Size, count, runs};
 
 // What was tried of a group of targets.
 #[derive(Clone, Copy, Default)]
@@ -37,11 +37,7 @@ pub fn try_all() {
         Rules::Conway,
         f,
     );
-    try_every(
-        b"HighLife, every target up to 3 by 3: ",
-        Rules::HighLife,
-        f,
-    );
+    try_every(b"HighLife, every target up to 3 by 3: ", Rules::HighLife, f);
     try_random(
         b"HighLife, pseudo-random targets of 2 by 2 to 4 by 4: ",
         Rules::HighLife,
@@ -165,10 +161,6 @@ fn try_seeds(rule: Rule, s: Size, targets: usize, firsts: &mut [Option<usize>], 
     }
 }
 
-fn count(n: &mut usize) {
-    *n = n.wrapping_add(1);
-}
-
 // A target against what enumeration left of its size.
 fn try_target(case: &Case, firsts: &[Option<usize>], c: &mut Counts) {
     let best = plain::best_board(firsts, case);
@@ -194,6 +186,6 @@ fn try_bad(case: &Case, c: &mut Counts) {
     let (bad, refusal) = case.altered(case.seed);
     count(&mut c.bad);
     if !bad.is_turned_away(refusal) {
-        c.bad_wrong = c.bad_wrong.wrapping_add(bad.differs(b"a byte of 2 or more"));
+        bad.differs(b"a byte of 2 or more", &mut c.bad_wrong);
     }
 }

@@ -33,13 +33,7 @@ pub fn try_all() {
     report::line(b"  differences from enumeration: ", t.wrong);
 }
 
-fn try_size(
-    w: usize,
-    h: usize,
-    firsts: &mut [Option<usize>],
-    table: &mut [u16],
-    t: &mut Tally,
-) {
+fn try_size(w: usize, h: usize, firsts: &mut [Option<usize>], table: &mut [u16], t: &mut Tally) {
     let size = Size::new(Kind::Predecessor, w, h);
     plain::enumerate(rule::conway(), size, firsts);
     for k in 0..16usize {
@@ -54,16 +48,16 @@ fn try_size(
 
 fn try_target(case: &Case, firsts: &[Option<usize>], table: &mut [u16], t: &mut Tally) {
     let best = plain::best_board(firsts, case);
-    t.targets = t.targets.wrapping_add(1);
+    trials::count(&mut t.targets);
     if best.is_some() {
-        t.boards = t.boards.wrapping_add(1);
+        trials::count(&mut t.boards);
     }
     let right = match two_pieces::run(case, table) {
         Ok(ended) => is_right(case, best, &ended),
         Err(_) => false,
     };
     if !right {
-        t.wrong = t.wrong.wrapping_add(case.differs(b"a wide target"));
+        case.differs(b"a wide target", &mut t.wrong);
     }
 }
 
@@ -73,7 +67,12 @@ fn is_right(case: &Case, best: Option<Best>, x: &Ended) -> bool {
     let (written, right) = match (best, x.job.stage) {
         (Some(b), Stage::Finished { score, .. }) => {
             let wanted = Case::of_number(case.rule, s, case.seed, b.board);
-            let is_board = x.board.iter().zip(wanted.givens.iter()).take(s.cells).all(|(a, b)| a == b);
+            let is_board = x
+                .board
+                .iter()
+                .zip(wanted.givens.iter())
+                .take(s.cells)
+                .all(|(a, b)| a == b);
             (
                 s.cells,
                 score == b.score && x.job.units == s.length && is_board,

@@ -10,11 +10,11 @@ pub struct Grid {
     pub h: usize,
 }
 
-pub fn grid(kind: Kind, w: usize, h: usize) -> Grid {
-    Grid { kind, w, h }
-}
-
 impl Grid {
+    pub fn new(kind: Kind, w: usize, h: usize) -> Grid {
+        Grid { kind, w, h }
+    }
+
     fn at(self, units: usize, stage: Stage) -> Job {
         Job {
             kind: self.kind,
@@ -211,7 +211,16 @@ pub fn pause(job: Job) {
 
 fn print_numbers(t: Checkpoint) {
     let numbers = [
-        t.width, t.height, t.units, t.above, t.last, t.live, t.mark, t.births, t.survivals, t.kind,
+        t.width,
+        t.height,
+        t.units,
+        t.above,
+        t.last,
+        t.live,
+        t.mark,
+        t.births,
+        t.survivals,
+        t.kind,
     ];
     for n in numbers {
         report::text(b" ");

@@ -1,110 +1,122 @@
 // Working calls on jobs of mirror boards, and their numbers. A row of width 4 is held as its left half, one of 4, so a layer has 16 entries.
 use crate::jobs::Grid;
-use crate::workings::{Lent, lent};
+use crate::workings::Lent;
 use crate::{jobs, workings};
 use job::Job;
 use job_kind::Kind;
 
-fn grid(w: usize, h: usize) -> Grid {
-    jobs::grid(Kind::Mirror, w, h)
-}
-
 // Calls on a grid of 4 by 2, which needs 32 entries, each of which breaks the rule that it names and those checked after it.
 pub fn order() {
-    let job = grid(4, 2).start();
-    work_short(
+    let short = Lent::of(31, 7);
+    let job = Grid::new(Kind::Mirror, 4, 2).start();
+    workings::work(
         b"work, mirror boards, width 3, and all below",
-        grid(3, 2).start(),
+        Grid::new(Kind::Mirror, 3, 2).start(),
         &[2, 2, 2, 0, 3, 0, 0],
+        short,
+        9,
     );
-    work_short(
+    workings::work(
         b"work, mirror boards, width 22, and all below",
-        grid(22, 2).start(),
+        Grid::new(Kind::Mirror, 22, 2).start(),
         &[2, 2, 2, 0, 3, 0, 0],
+        short,
+        9,
     );
-    work_short(
+    workings::work(
         b"work, mirror boards, unit 32 in filling, and all below",
-        grid(4, 2).filling(32, [0, 0, 0]),
+        Grid::new(Kind::Mirror, 4, 2).filling(32, [0, 0, 0]),
         &[2, 2, 2, 0, 3, 0, 0],
+        short,
+        9,
     );
-    work_short(
+    workings::work(
         b"work, mirror boards, 7 givens of 8, and all below",
         job,
         &[2, 2, 2, 0, 3, 0, 0],
+        short,
+        9,
     );
-    work_short(
+    workings::work(
         b"work, mirror boards, a mark 3, and all below",
         job,
         &[2, 2, 2, 0, 3, 0, 0, 0],
+        short,
+        9,
     );
-    work_short(
+    workings::work(
         b"work, mirror boards, row 1 given live but its last, and all below",
         job,
         &[2, 2, 2, 0, 0, 0, 0, 0],
+        short,
+        9,
     );
-    work_short(
+    workings::work(
         b"work, mirror boards, the second of row 2 dead, its reflection free, and all below",
         job,
         &[2, 1, 1, 2, 0, 1, 0, 0],
+        short,
+        9,
     );
-    work_short(
+    workings::work(
         b"work, mirror boards, 7 cells of 8, and 31 entries",
         job,
         &[0; 8],
+        short,
+        9,
     );
-}
-
-fn work_short(name: &[u8], job: Job, givens: &[u8]) {
-    workings::work(name, job, givens, lent(31, 7), 9);
 }
 
 // On that grid again.
 pub fn memory() {
-    work(
+    let job = Grid::new(Kind::Mirror, 4, 2).start();
+    workings::work(
         b"work, mirror boards, 9 cells of 8, and 31 entries",
+        job,
         &[0; 8],
-        lent(31, 9),
+        Lent::of(31, 9),
         9,
     );
-    work(
+    workings::work(
         b"work, mirror boards, 31 entries of 32",
+        job,
         &[0; 8],
-        lent(31, 8),
+        Lent::of(31, 8),
         9,
     );
-    work(
+    workings::work(
         b"work, mirror boards, the first dead, its reflection free, 32 entries",
+        job,
         &[1, 0, 0, 0, 0, 0, 0, 0],
-        lent(32, 8),
+        Lent::of(32, 8),
         9,
     );
 }
 
 // Calls that pass, with more entries lent than are needed.
 pub fn passes() {
+    let job = Grid::new(Kind::Mirror, 4, 2).start();
     let free = [0; 8];
     let none = [2, 1, 1, 2, 0, 0, 0, 0];
-    let more = lent(40, 8);
-    work(b"work, mirror boards, allowance 0", &free, more, 0);
-    work(b"work, mirror boards, allowance 9", &free, more, 9);
-    work(b"work, mirror boards, allowance 33", &free, more, 33);
-    work(b"work, mirror boards, allowance 34", &free, more, 34);
-    work(
+    let more = Lent::of(40, 8);
+    workings::work(b"work, mirror boards, allowance 0", job, &free, more, 0);
+    workings::work(b"work, mirror boards, allowance 9", job, &free, more, 9);
+    workings::work(b"work, mirror boards, allowance 33", job, &free, more, 33);
+    workings::work(b"work, mirror boards, allowance 34", job, &free, more, 34);
+    workings::work(
         b"work, mirror boards, no board, allowance 32",
+        job,
         &none,
         more,
         32,
     );
-    work(
+    workings::work(
         b"work, mirror boards, no board, allowance 33",
+        job,
         &none,
         more,
         33,
     );
-}
-
-fn work(name: &[u8], givens: &[u8], lent: Lent, allowance: u32) {
-    workings::work(name, grid(4, 2).start(), givens, lent, allowance);
 }
 
 // Calls of one unit that chooses row 2 of 4 by 3 over a table whose entries are none but that of row 2 over row 3, both held as 1: 1,200 counts and
@@ -117,41 +129,41 @@ pub fn spoiled() {
 fn choose(name: &[u8], entry: u16) {
     let mut table = [65535u16; 48];
     table[21] = entry;
-    let job = grid(4, 3).choosing(49, [0, 1, 2]);
+    let job = Grid::new(Kind::Mirror, 4, 3).choosing(49, [0, 1, 2]);
     workings::choose(name, job, &[0; 12], &mut table);
 }
 
 // Numbers of each kind, and of none, resumed as jobs of mirror boards; and those of mirror boards as each other kind.
 pub fn kinds() {
-    grid(4, 3).resume_kinds();
+    Grid::new(Kind::Mirror, 4, 3).resume_kinds();
 }
 
 pub fn widths() {
     for w in [0, 1, 2, 3, 12, 19, 20, 21, 22] {
-        grid(w, 3).resume(0, 0, [0, 0, 0]);
+        Grid::new(Kind::Mirror, w, 3).resume(0, 0, [0, 0, 0]);
     }
-    grid(4, 0).resume(0, 0, [0, 0, 0]);
-    grid(4, 61).resume(0, 0, [0, 0, 0]);
+    Grid::new(Kind::Mirror, 4, 0).resume(0, 0, [0, 0, 0]);
+    Grid::new(Kind::Mirror, 4, 61).resume(0, 0, [0, 0, 0]);
 }
 
 // Units about the length of 4 by 3.
 pub fn lengths() {
-    grid(4, 3).resume_lengths();
+    Grid::new(Kind::Mirror, 4, 3).resume_lengths();
 }
 
 pub fn rows() {
-    grid(4, 3).resume_rows();
+    Grid::new(Kind::Mirror, 4, 3).resume_rows();
 }
 
 // A grid of 20 by 60, whose table has 62,914,560 entries, at its ends.
 pub fn limits() {
-    grid(20, 60).resume_limits();
+    Grid::new(Kind::Mirror, 20, 60).resume_limits();
 }
 
 // Pauses of jobs of 4 by 3 in each stage, and with numbers that do not fit.
 pub fn pauses() {
-    grid(4, 3).pause_stages();
+    Grid::new(Kind::Mirror, 4, 3).pause_stages();
     for w in [3, 20, 22] {
-        jobs::pause(grid(w, 3).start());
+        jobs::pause(Grid::new(Kind::Mirror, w, 3).start());
     }
 }

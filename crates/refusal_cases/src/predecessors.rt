@@ -1,83 +1,96 @@
 // Working calls on predecessor jobs, and their numbers.
 use crate::jobs::Grid;
-use crate::workings::{Lent, lent};
+use crate::workings::Lent;
 use crate::{jobs, ordinary, workings};
 use job::{Checkpoint, Job};
 use job_kind::Kind;
 
-fn grid(w: usize, h: usize) -> Grid {
-    jobs::grid(Kind::Predecessor, w, h)
-}
-
 // Calls on a target of 3 by 2, which needs 128 entries, each of which breaks the rule that it names and those checked after it. Three live cells along
 // an edge, and three bytes of 2, are no edge three here.
 pub fn order() {
-    let job = grid(3, 2).start();
-    work_short(
+    let short = Lent::of(127, 5);
+    let job = Grid::new(Kind::Predecessor, 3, 2).start();
+    workings::work(
         b"work, predecessor, width 11, and all below",
-        grid(11, 2).start(),
+        Grid::new(Kind::Predecessor, 11, 2).start(),
         &[1, 1, 1, 0, 2],
+        short,
+        9,
     );
-    work_short(
+    workings::work(
         b"work, predecessor, unit 128 in filling, and all below",
-        grid(3, 2).filling(128, [0, 0, 0]),
+        Grid::new(Kind::Predecessor, 3, 2).filling(128, [0, 0, 0]),
         &[1, 1, 1, 0, 2],
+        short,
+        9,
     );
-    work_short(
+    workings::work(
         b"work, predecessor, births 9, and all below",
         ordinary::with_births(job, 9),
         &[1, 1, 1, 0, 2],
+        short,
+        9,
     );
-    work_short(
+    workings::work(
         b"work, predecessor, 5 cells of the target's 6, and all below",
         job,
         &[1, 1, 1, 0, 2],
+        short,
+        9,
     );
-    work_short(
+    workings::work(
         b"work, predecessor, 7 cells of the target's 6, and all below",
         job,
         &[1, 1, 1, 0, 2, 0, 0],
+        short,
+        9,
     );
-    work_short(
+    workings::work(
         b"work, predecessor, bytes 2 and 3, and all below",
         job,
         &[1, 1, 1, 0, 2, 3],
+        short,
+        9,
     );
-    work_short(
+    workings::work(
         b"work, predecessor, row 1 of 2, and all below",
         job,
         &[2, 2, 2, 0, 0, 0],
+        short,
+        9,
     );
-    work_short(
+    workings::work(
         b"work, predecessor, row 1 live, 5 cells of 6, and 127 entries",
         job,
         &[1, 1, 1, 0, 0, 0],
+        short,
+        9,
     );
-}
-
-fn work_short(name: &[u8], job: Job, target: &[u8]) {
-    workings::work(name, job, target, lent(127, 5), 9);
 }
 
 // On a target of that size again.
 pub fn memory() {
+    let job = Grid::new(Kind::Predecessor, 3, 2).start();
     let target = [1, 1, 1, 0, 0, 0];
-    work(
+    workings::work(
         b"work, predecessor, 7 cells of 6, and 127 entries",
+        job,
         &target,
-        lent(127, 7),
+        Lent::of(127, 7),
         9,
     );
-    work(
+    workings::work(
         b"work, predecessor, 127 entries of 128",
+        job,
         &target,
-        lent(127, 6),
+        Lent::of(127, 6),
         9,
     );
-    work(
+    workings::work(
         b"work, predecessor, a byte 2, 128 entries",
+        job,
         &[1, 2, 1, 0, 0, 0],
-        lent(128, 6),
+        Lent::of(128, 6),
         9,
     );
 }
@@ -85,30 +98,29 @@ pub fn memory() {
 // Calls that pass, with more entries lent than are needed: on the block in columns 2 and 3, which is lopsided, and on three live cells along an edge,
 // which no board steps to.
 pub fn passes() {
+    let job = Grid::new(Kind::Predecessor, 3, 2).start();
     let block = [0, 1, 1, 0, 1, 1];
     let none = [1, 1, 1, 0, 0, 0];
-    let more = lent(140, 6);
-    work(b"work, predecessor, allowance 0", &block, more, 0);
-    work(b"work, predecessor, allowance 9", &block, more, 9);
-    work(b"work, predecessor, allowance 128", &block, more, 128);
-    work(b"work, predecessor, allowance 129", &block, more, 129);
-    work(b"work, predecessor, allowance 130", &block, more, 130);
-    work(
+    let more = Lent::of(140, 6);
+    workings::work(b"work, predecessor, allowance 0", job, &block, more, 0);
+    workings::work(b"work, predecessor, allowance 9", job, &block, more, 9);
+    workings::work(b"work, predecessor, allowance 128", job, &block, more, 128);
+    workings::work(b"work, predecessor, allowance 129", job, &block, more, 129);
+    workings::work(b"work, predecessor, allowance 130", job, &block, more, 130);
+    workings::work(
         b"work, predecessor, no board, allowance 128",
+        job,
         &none,
         more,
         128,
     );
-    work(
+    workings::work(
         b"work, predecessor, no board, allowance 129",
+        job,
         &none,
         more,
         129,
     );
-}
-
-fn work(name: &[u8], target: &[u8], lent: Lent, allowance: u32) {
-    workings::work(name, grid(3, 2).start(), target, lent, allowance);
 }
 
 // Calls of one unit that chooses row 2 of 2 by 3 below row 3, which has to stay 3: rows 1, 2 and 3 can stand there. The entries are none but (2, 3, 1):
@@ -140,27 +152,27 @@ fn choose(name: &[u8], entries: [u16; 3]) {
     table[29] = first;
     table[30] = second;
     table[31] = third;
-    let job = grid(2, 3).choosing(49, [0, 3, 2]);
+    let job = Grid::new(Kind::Predecessor, 2, 3).choosing(49, [0, 3, 2]);
     workings::choose(name, job, &[1, 1, 0, 0, 0, 0], &mut table);
 }
 
 // Numbers of each kind, and of none, resumed as predecessor jobs; and those of a predecessor job as each other kind.
 pub fn kinds() {
-    grid(2, 3).resume_kinds();
+    Grid::new(Kind::Predecessor, 2, 3).resume_kinds();
 }
 
 // Widths, heights and rules.
 pub fn sizes() {
     for w in [0, 1, 10, 11, 12] {
-        grid(w, 3).resume(0, 0, [0, 0, 0]);
+        Grid::new(Kind::Predecessor, w, 3).resume(0, 0, [0, 0, 0]);
     }
-    grid(2, 0).resume(0, 0, [0, 0, 0]);
-    grid(2, 61).resume(0, 0, [0, 0, 0]);
+    Grid::new(Kind::Predecessor, 2, 0).resume(0, 0, [0, 0, 0]);
+    Grid::new(Kind::Predecessor, 2, 61).resume(0, 0, [0, 0, 0]);
     for (births, survivals) in [(9, 12), (512, 12), (8, 512), (510, 511)] {
         let numbers = Checkpoint {
             births,
             survivals,
-            ..grid(2, 3).paused(0, 0, [0, 0, 0])
+            ..Grid::new(Kind::Predecessor, 2, 3).paused(0, 0, [0, 0, 0])
         };
         jobs::resume(Kind::Predecessor, numbers);
     }
@@ -168,23 +180,23 @@ pub fn sizes() {
 
 // Units about the length of 2 by 3.
 pub fn lengths() {
-    grid(2, 3).resume_lengths();
+    Grid::new(Kind::Predecessor, 2, 3).resume_lengths();
 }
 
 pub fn rows() {
-    grid(2, 3).resume(47, 0, [0, 0, 1]);
-    grid(2, 3).resume_rows();
+    Grid::new(Kind::Predecessor, 2, 3).resume(47, 0, [0, 0, 1]);
+    Grid::new(Kind::Predecessor, 2, 3).resume_rows();
 }
 
 // A target of 10 by 60, whose table has 62,914,560 entries, at its ends.
 pub fn limits() {
-    grid(10, 60).resume_limits();
+    Grid::new(Kind::Predecessor, 10, 60).resume_limits();
 }
 
 // Pauses of jobs of 2 by 3 in each stage, and with numbers that do not fit.
 pub fn pauses() {
-    grid(2, 3).pause_stages();
+    Grid::new(Kind::Predecessor, 2, 3).pause_stages();
     for w in [10, 11] {
-        jobs::pause(grid(w, 3).start());
+        jobs::pause(Grid::new(Kind::Predecessor, w, 3).start());
     }
 }

@@ -1,6 +1,7 @@
 // Spoiled tables on a grid of 2 by 3.
+use crate::jobs::Grid;
 use crate::rounds::ROUNDS;
-use crate::{jobs, workings};
+use crate::workings;
 use job::Job;
 use job_kind::Kind;
 
@@ -33,7 +34,7 @@ pub fn calls() {
 fn call(name: &[u8], units: usize, allowance: u32, table: &mut [u16], board: &mut [u8]) {
     let above = if units == 50 { 3 } else { 0 };
     let last = if units == 48 { 0 } else { 3 };
-    let job = jobs::grid(Kind::Ordinary, 2, 3).choosing(units, [above, last, 0]);
+    let job = Grid::new(Kind::Ordinary, 2, 3).choosing(units, [above, last, 0]);
     workings::call(name, job, &[0; 6], table, board, allowance);
 }
 

@@ -1,65 +1,68 @@
 // Working calls on jobs of two layers, which need 2 × 4^w entries whatever their height.
 use crate::jobs::Grid;
 use crate::rounds::ROUNDS;
-use crate::workings::{Lent, lent};
+use crate::workings::Lent;
 use crate::{jobs, workings};
 use job::Job;
 use job_kind::Kind;
 
-fn two(w: usize, h: usize) -> Grid {
-    jobs::grid(Kind::TwoLayers, w, h)
-}
-
 // Calls on a grid of 3 by 2, each of which breaks the rule that it names and those checked after it.
 pub fn order() {
-    let job = two(3, 2).start();
-    work_short(
+    let short = Lent::of(127, 5);
+    let job = Grid::new(Kind::TwoLayers, 3, 2).start();
+    workings::work(
         b"work, two layers, choosing at unit 0, and all below",
-        two(3, 2).choosing(0, [0, 0, 0]),
+        Grid::new(Kind::TwoLayers, 3, 2).choosing(0, [0, 0, 0]),
         &[2, 2, 2, 0, 3],
+        short,
+        9,
     );
-    work_short(
+    workings::work(
         b"work, two layers, 5 givens of 6, and all below",
         job,
         &[2, 2, 2, 0, 3],
+        short,
+        9,
     );
-    work_short(
+    workings::work(
         b"work, two layers, a mark 3, and all below",
         job,
         &[2, 2, 2, 0, 3, 0],
+        short,
+        9,
     );
-    work_short(
+    workings::work(
         b"work, two layers, row 1 given live, and all below",
         job,
         &[2, 2, 2, 0, 0, 0],
+        short,
+        9,
     );
-    work_short(
+    workings::work(
         b"work, two layers, 5 cells of 6, and 127 entries",
         job,
         &[0; 6],
+        short,
+        9,
     );
-}
-
-fn work_short(name: &[u8], job: Job, givens: &[u8]) {
-    workings::work(name, job, givens, lent(127, 5), 9);
 }
 
 // On that grid again.
 pub fn memory() {
-    let grid = two(3, 2);
+    let grid = Grid::new(Kind::TwoLayers, 3, 2);
     work(
         b"work, two layers, 7 cells of 6, and 127 entries",
         grid,
-        lent(127, 7),
+        Lent::of(127, 7),
         9,
     );
     work(
         b"work, two layers, 127 entries of 128",
         grid,
-        lent(127, 6),
+        Lent::of(127, 6),
         9,
     );
-    work(b"work, two layers, 128 entries", grid, lent(128, 6), 9);
+    work(b"work, two layers, 128 entries", grid, Lent::of(128, 6), 9);
 }
 
 // A call on a job at unit 0 of a free grid.
@@ -71,90 +74,95 @@ fn work(name: &[u8], grid: Grid, lent: Lent, allowance: u32) {
 
 // On a grid of 2 by 1, where an ordinary job needs fewer entries.
 pub fn low() {
-    let ordinary = jobs::grid(Kind::Ordinary, 2, 1);
+    let ordinary = Grid::new(Kind::Ordinary, 2, 1);
     work(
         b"work, 2 by 1, 15 entries of 16",
         ordinary,
-        lent(15, 2),
+        Lent::of(15, 2),
         1000,
     );
-    work(b"work, 2 by 1, 16 entries", ordinary, lent(16, 2), 1000);
+    work(b"work, 2 by 1, 16 entries", ordinary, Lent::of(16, 2), 1000);
     work(
         b"work, two layers, 2 by 1, 16 entries of 32",
-        two(2, 1),
-        lent(16, 2),
+        Grid::new(Kind::TwoLayers, 2, 1),
+        Lent::of(16, 2),
         1000,
     );
     work(
         b"work, two layers, 2 by 1, 31 entries of 32",
-        two(2, 1),
-        lent(31, 2),
+        Grid::new(Kind::TwoLayers, 2, 1),
+        Lent::of(31, 2),
         1000,
     );
     work(
         b"work, two layers, 2 by 1, 32 entries",
-        two(2, 1),
-        lent(32, 2),
+        Grid::new(Kind::TwoLayers, 2, 1),
+        Lent::of(32, 2),
         1000,
     );
 }
 
 // On a grid of 2 by 3, where an ordinary job needs more.
 pub fn high() {
-    let ordinary = jobs::grid(Kind::Ordinary, 2, 3);
+    let ordinary = Grid::new(Kind::Ordinary, 2, 3);
     work(
         b"work, 2 by 3, 32 entries of 48",
         ordinary,
-        lent(32, 6),
+        Lent::of(32, 6),
         1000,
     );
     work(
         b"work, 2 by 3, 47 entries of 48",
         ordinary,
-        lent(47, 6),
+        Lent::of(47, 6),
         1000,
     );
-    work(b"work, 2 by 3, 48 entries", ordinary, lent(48, 6), 1000);
+    work(b"work, 2 by 3, 48 entries", ordinary, Lent::of(48, 6), 1000);
     work(
         b"work, two layers, 2 by 3, 31 entries of 32",
         ROUNDS,
-        lent(31, 6),
+        Lent::of(31, 6),
         1000,
     );
     work(
         b"work, two layers, 2 by 3, 32 entries",
         ROUNDS,
-        lent(32, 6),
+        Lent::of(32, 6),
         1000,
     );
     work(
         b"work, two layers, 2 by 3, 48 entries",
         ROUNDS,
-        lent(48, 6),
+        Lent::of(48, 6),
         1000,
     );
 }
 
 // On a grid of 1 by 60.
 pub fn highest() {
-    let ordinary = jobs::grid(Kind::Ordinary, 1, 60);
+    let ordinary = Grid::new(Kind::Ordinary, 1, 60);
     work(
         b"work, 1 by 60, 239 entries of 240",
         ordinary,
-        lent(239, 60),
+        Lent::of(239, 60),
         9,
     );
-    work(b"work, 1 by 60, 240 entries", ordinary, lent(240, 60), 9);
+    work(
+        b"work, 1 by 60, 240 entries",
+        ordinary,
+        Lent::of(240, 60),
+        9,
+    );
     work(
         b"work, two layers, 1 by 60, 7 entries of 8",
-        two(1, 60),
-        lent(7, 60),
+        Grid::new(Kind::TwoLayers, 1, 60),
+        Lent::of(7, 60),
         9,
     );
     work(
         b"work, two layers, 1 by 60, 8 entries",
-        two(1, 60),
-        lent(8, 60),
+        Grid::new(Kind::TwoLayers, 1, 60),
+        Lent::of(8, 60),
         9,
     );
 }
@@ -168,9 +176,9 @@ pub fn square() {
 fn work_square(name: &[u8], givens: &[u8], entries: usize, allowance: u32) {
     workings::work(
         name,
-        two(2, 2).start(),
+        Grid::new(Kind::TwoLayers, 2, 2).start(),
         givens,
-        lent(entries, 4),
+        Lent::of(entries, 4),
         allowance,
     );
 }
@@ -197,7 +205,7 @@ pub fn ended() {
         b"work, two layers, 31 entries of 32",
         job,
         &[0; 6],
-        lent(31, 6),
+        Lent::of(31, 6),
         9,
     );
     work_at(ROUNDS.infeasible(49), 9);
@@ -230,7 +238,7 @@ fn work_at(job: Job, allowance: u32) {
         b"work, two layers, 2 by 3",
         job,
         &[0; 6],
-        lent(32, 6),
+        Lent::of(32, 6),
         allowance,
     );
 }

@@ -10,86 +10,114 @@ pub struct Lent {
     pub cells: usize,
 }
 
-pub fn lent(entries: usize, cells: usize) -> Lent {
-    Lent { entries, cells }
+impl Lent {
+    pub fn of(entries: usize, cells: usize) -> Lent {
+        Lent { entries, cells }
+    }
 }
 
 // Calls that are lent an entry and a cell too few as well.
 pub fn jobs() {
     let grid = ordinary::wide(2);
-    work_short(
+    work(
         b"work, width 11, and all below",
         ordinary::wide(11).start(),
         &[0, 3, 0],
+        Lent::of(31, 3),
+        9,
     );
-    work_short(
+    work(
         b"work, unit 32 in filling, and all below",
         grid.filling(32, [0, 0, 0]),
         &[0, 3, 0],
+        Lent::of(31, 3),
+        9,
     );
-    work_short(
+    work(
         b"work, births 9, and all below",
         ordinary::with_births(grid.start(), 9),
         &[0, 3, 0],
+        Lent::of(31, 3),
+        9,
     );
 }
 
 pub fn givens() {
     let job = ordinary::wide(2).start();
-    work_short(b"work, givens 0, 3, 0 of 4, and all below", job, &[0, 3, 0]);
-    work_short(b"work, 5 givens of 4", job, &[0, 3, 0, 0, 0]);
-    work_short(
+    work(
+        b"work, givens 0, 3, 0 of 4, and all below",
+        job,
+        &[0, 3, 0],
+        Lent::of(31, 3),
+        9,
+    );
+    work(
+        b"work, 5 givens of 4",
+        job,
+        &[0, 3, 0, 0, 0],
+        Lent::of(31, 3),
+        9,
+    );
+    work(
         b"work, givens 0, 3, 2, 4, and all below",
         job,
         &[0, 3, 2, 4],
+        Lent::of(31, 3),
+        9,
     );
 }
 
 // On a grid of 3 by 2.
 pub fn edge_threes() {
     let job = ordinary::wide(3).start();
-    work_short(
+    work(
         b"work, row 1 of 3 by 2 given live, 5 givens of 6, and all below",
         job,
         &[2, 2, 2, 0, 0],
+        Lent::of(31, 3),
+        9,
     );
-    work_short(
+    work(
         b"work, row 1 of 3 by 2 given live, a mark 3, and all below",
         job,
         &[2, 2, 2, 0, 0, 3],
+        Lent::of(31, 3),
+        9,
     );
-    work_short(
+    work(
         b"work, row 1 of 3 by 2 given live, and all below",
         job,
         &[2, 2, 2, 0, 0, 0],
+        Lent::of(31, 3),
+        9,
     );
-    work_short(
+    work(
         b"work, row 2 of 3 by 2 given live, births on 2, and all below",
         ordinary::with_births(job, 4),
         &[0, 0, 0, 2, 2, 2],
+        Lent::of(31, 3),
+        9,
     );
-    work_short(
+    work(
         b"work, row 1 of 3 by 2 given live, births on 0 and 3, and all below",
         ordinary::with_births(job, 9),
         &[2, 2, 2, 0, 0, 0],
+        Lent::of(31, 3),
+        9,
     );
 }
 
-fn work_short(name: &[u8], job: Job, givens: &[u8]) {
-    work(name, job, givens, lent(31, 3), 9);
-}
-
 pub fn memory() {
-    lend(b"work, 3 cells of 4, and 31 entries", lent(31, 3), 9);
-    lend(b"work, 5 cells of 4, and 31 entries", lent(31, 5), 9);
-    lend(b"work, 31 entries of 32", lent(31, 4), 9);
+    lend(b"work, 3 cells of 4, and 31 entries", Lent::of(31, 3), 9);
+    lend(b"work, 5 cells of 4, and 31 entries", Lent::of(31, 5), 9);
+    lend(b"work, 31 entries of 32", Lent::of(31, 4), 9);
 }
 
 // Calls that pass.
 pub fn passes() {
-    lend(b"work, allowance 0", lent(32, 4), 0);
-    lend(b"work, allowance 9", lent(32, 4), 9);
-    lend(b"work, allowance 34", lent(40, 4), 34);
+    lend(b"work, allowance 0", Lent::of(32, 4), 0);
+    lend(b"work, allowance 9", Lent::of(32, 4), 9);
+    lend(b"work, allowance 34", Lent::of(40, 4), 34);
 }
 
 fn lend(name: &[u8], lent: Lent, allowance: u32) {

@@ -57,12 +57,12 @@ fn try_number(rule: Rule, w: usize, h: usize, number: usize, t: &mut Tally) {
         size: Size::new(Kind::TwoLayers, w, h),
         ..case
     };
-    t.grids = t.grids.wrapping_add(1);
+    trials::count(&mut t.grids);
     if case.edge_three().is_some() {
-        t.found = t.found.wrapping_add(1);
+        trials::count(&mut t.found);
     }
     if !is_answered(&case) || !is_answered(&two) {
-        t.wrong = t.wrong.wrapping_add(case.differs(b"an edge three"));
+        case.differs(b"an edge three", &mut t.wrong);
     }
 }
 

@@ -4,7 +4,7 @@ use job_kind::Kind;
 use solver::Status;
 use trials::plain::Best;
 use trials::runs::Runs;
-use trials::{After, Case, Rules, Size, plain, runs};
+use trials::{After, Case, Rules, Size, count, plain, runs};
 
 // What was tried of a group of grids.
 #[derive(Clone, Copy, Default)]
@@ -93,10 +93,6 @@ fn try_random(name: &[u8], rules: Rules) {
     print(name, c);
 }
 
-fn count(n: &mut usize) {
-    *n = n.wrapping_add(1);
-}
-
 // A grid with an edge three is turned away, and enumeration finds no board; any other is run by both kinds.
 fn try_grid(case: &Case, c: &mut Counts) {
     let two = Case {
@@ -109,7 +105,7 @@ fn try_grid(case: &Case, c: &mut Counts) {
         count(&mut c.edges);
         let refusal = Refusal::EdgeThree(place);
         if best.is_some() || !case.is_turned_away(refusal) || !two.is_turned_away(refusal) {
-            c.wrong = c.wrong.wrapping_add(case.differs(b"an edge three"));
+            case.differs(b"an edge three", &mut c.wrong);
         }
         return;
     }
@@ -122,7 +118,7 @@ fn try_grid(case: &Case, c: &mut Counts) {
     let ordinary = runs::try_case(case, best, &mut c.ordinary);
     let two_layers = runs::try_case(&two, best, &mut c.two_layers);
     if !are_alike(ordinary, two_layers) {
-        c.apart = c.apart.wrapping_add(case.differs(b"the answers or the boards of the two kinds"));
+        case.differs(b"the answers or the boards of the two kinds", &mut c.apart);
     }
 }
 

@@ -1,5 +1,6 @@
 // Jobs at the limits of width and height, their lengths written out: which numbers beside their ends resuming takes.
 use crate::numbers;
+use crate::numbers::Tally;
 use job::Checkpoint;
 use job_kind::Kind;
 
@@ -11,13 +12,6 @@ struct Ends {
     h: usize,
     length: usize,
     none: usize,
-}
-
-// What was tried.
-#[derive(Clone, Copy, Default)]
-struct Tally {
-    taken: usize,
-    wrong: usize,
 }
 
 pub fn try_all() {
@@ -76,8 +70,13 @@ fn try_limit(x: Ends, t: &mut Tally) {
         let units = end.wrapping_add(k % 3).wrapping_sub(1);
         let mark = k / 3 % 4;
         let c = without_rows(x, units, mark);
-        count(c, x.kind, fits(x, units, mark), t);
-        count(c, other, false, t);
+        numbers::count(
+            fits(x, units, mark),
+            numbers::is_resumed_as(x.kind, c),
+            c,
+            t,
+        );
+        numbers::count(false, numbers::is_resumed_as(other, c), c, t);
     }
 }
 
@@ -104,15 +103,5 @@ fn without_rows(x: Ends, units: usize, mark: usize) -> Checkpoint {
         births: rule.births,
         survivals: rule.survivals,
         kind: numbers::number_of(x.kind),
-    }
-}
-
-fn count(c: Checkpoint, kind: Kind, taken: bool, t: &mut Tally) {
-    if taken {
-        t.taken = t.taken.wrapping_add(1);
-    }
-    if numbers::is_resumed_as(kind, c) != Some(taken) {
-        numbers::print_difference(c);
-        t.wrong = t.wrong.wrapping_add(1);
     }
 }

@@ -7,9 +7,9 @@ use trials::{Rules, Size};
 
 // What was tried.
 #[derive(Clone, Copy, Default)]
-struct Tally {
-    taken: usize,
-    wrong: usize,
+pub struct Tally {
+    pub taken: usize,
+    pub wrong: usize,
 }
 
 pub fn try_all() {
@@ -98,7 +98,12 @@ fn print(name: &[u8], t: Tally) {
 
 // Resumes numbers as a kind.
 fn try_numbers(kind: Kind, numbers: Checkpoint, t: &mut Tally) {
-    count(takes(kind, numbers), is_resumed_as(kind, numbers), numbers, t);
+    count(
+        takes(kind, numbers),
+        is_resumed_as(kind, numbers),
+        numbers,
+        t,
+    );
 }
 
 // Pauses a job.
@@ -112,18 +117,18 @@ fn try_job(job: Job, t: &mut Tally) {
 }
 
 // Counts an answer, which has to be what the rules say.
-fn count(taken: bool, answer: Option<bool>, numbers: Checkpoint, t: &mut Tally) {
+pub fn count(taken: bool, answer: Option<bool>, numbers: Checkpoint, t: &mut Tally) {
     if taken {
-        t.taken = t.taken.wrapping_add(1);
+        trials::count(&mut t.taken);
     }
     if answer != Some(taken) {
         print_difference(numbers);
-        t.wrong = t.wrong.wrapping_add(1);
+        trials::count(&mut t.wrong);
     }
 }
 
 // Prints a difference with its numbers.
-pub fn print_difference(c: Checkpoint) {
+fn print_difference(c: Checkpoint) {
     report::line(b"difference: width ", c.width);
     report::line(b"  height ", c.height);
     report::line(b"  units ", c.units);
@@ -147,7 +152,7 @@ pub fn is_resumed_as(kind: Kind, numbers: Checkpoint) -> Option<bool> {
     }
 }
 
-// The number of a kind, by the documents.
+// The number of a kind, by the documents and apart from the library.
 pub fn number_of(kind: Kind) -> usize {
     match kind {
         Kind::Ordinary => 0,
@@ -271,7 +276,11 @@ fn random_numbers(kind: Kind, seed: usize) -> Checkpoint {
     let tall = pseudo_random::below(3, seed, 800000) == 0;
     let low = if tall { 58 } else { 0 };
     let w = pseudo_random::below(12, seed, 800001);
-    let s = Size::new(kind, w, pseudo_random::below(4, seed, 800002).wrapping_add(low));
+    let s = Size::new(
+        kind,
+        w,
+        pseudo_random::below(4, seed, 800002).wrapping_add(low),
+    );
     let mark = match pseudo_random::below(16, seed, 800003) {
         0..=8 => 0,
         9..=12 => 1,
@@ -297,10 +306,6 @@ fn random_numbers(kind: Kind, seed: usize) -> Checkpoint {
     }
 }
 
-fn numbered(births: usize, survivals: usize) -> Rule {
-    Rule { births, survivals }
-}
-
 fn random_rules(seed: usize) -> Rules {
     match pseudo_random::below(6, seed, 800012) {
         0 => Rules::Conway,
@@ -316,15 +321,16 @@ fn random_rules(seed: usize) -> Rules {
 fn random_rule(seed: usize) -> Rule {
     let rule = random_rules(seed).rule(seed);
     let large = 508usize.wrapping_add(pseudo_random::below(8, seed, 800013));
-    match pseudo_random::below(16, seed, 800014) {
-        0 => numbered(rule.births.wrapping_add(1), rule.survivals),
-        1 => numbered(large, rule.survivals),
-        2 => numbered(rule.births, large),
-        3 => numbered(510, 511),
-        4 => numbered(0usize.wrapping_sub(large), rule.survivals),
-        5 => numbered(rule.births, 0usize.wrapping_sub(large)),
-        _ => rule,
-    }
+    let (births, survivals) = match pseudo_random::below(16, seed, 800014) {
+        0 => (rule.births.wrapping_add(1), rule.survivals),
+        1 => (large, rule.survivals),
+        2 => (rule.births, large),
+        3 => (510, 511),
+        4 => (0usize.wrapping_sub(large), rule.survivals),
+        5 => (rule.births, 0usize.wrapping_sub(large)),
+        _ => (rule.births, rule.survivals),
+    };
+    Rule { births, survivals }
 }
 
 // Where an ordinary or a predecessor job of a mark stands, at the ends of filling and choosing, beside them, or anywhere.
@@ -332,7 +338,9 @@ fn random_units(s: Size, mark: usize, seed: usize) -> usize {
     let end = s.entries.wrapping_add(s.h);
     match pseudo_random::below(16, seed, 800004) {
         0..=4 => match mark {
-            0 => s.entries.wrapping_add(pseudo_random::below(s.h, seed, 800005)),
+            0 => s
+                .entries
+                .wrapping_add(pseudo_random::below(s.h, seed, 800005)),
             1 => end,
             _ => s.entries.wrapping_add(1),
         },

@@ -87,7 +87,11 @@ pub(crate) fn end_of(best: Option<Best>) -> Status {
 
 // A job's length in units, by what enumeration finds, and the cells that it writes.
 pub(crate) fn length(s: Size, best: Option<Best>) -> usize {
-    if best.is_some() { s.length } else { s.none_length }
+    if best.is_some() {
+        s.length
+    } else {
+        s.none_length
+    }
 }
 
 pub(crate) fn written(s: Size, best: Option<Best>) -> usize {

@@ -1,11 +1,11 @@
 // A case to try: a rule, a size, and what is lent to be read.
-ghost use Rattle.std.specs.Prelude.{◌≡◌, ◌<◌, IfSome, IsTrue, Ok, Err, take, min};
+ghost use Rattle.std.specs.Prelude.{◌≡◌, ◌+◌, ◌-◌, ◌^◌, ◌<◌, IfSome, IsTrue, Ok, Err, take, min};
 ghost use Rattle.job.specs.Calls.{Opens};
 ghost use Rattle.job.specs.declared.Job.{Job};
 
 use crate::calls::{Call, Lent};
 use crate::memory::Memory;
-use crate::{Size, calls, edges, jobs, marks, memory};
+use crate::{Size, calls, counts, edges, jobs, marks, memory};
 use board::Refusal;
 use job::Job;
 use job_kind::Kind;
@@ -25,29 +25,30 @@ pub struct Case {
     pub givens: [u8; CELLS],
 }
 
+fn with_givens(rule: Rule, size: Size, seed: usize, givens: [u8; CELLS]) -> Case
+    ensures { (result.rule ≡ rule) × (result.size ≡ size) × (result.seed ≡ seed) }
+{
+    Case {
+        rule,
+        size,
+        seed,
+        givens,
+    }
+}
+
 impl Case {
     // The case whose givens are the digits of a number.
     pub fn of_number(rule: Rule, size: Size, seed: usize, number: usize) -> Case
         ensures { (result.rule ≡ rule) × (result.size ≡ size) × (result.seed ≡ seed) }
     {
-        Case {
-            rule,
-            size,
-            seed,
-            givens: marks::of_number(size, number),
-        }
+        with_givens(rule, size, seed, marks::of_number(size, number))
     }
 
     // The pseudo-random case of a seed.
     pub fn random(rule: Rule, size: Size, seed: usize) -> Case
         ensures { (result.rule ≡ rule) × (result.size ≡ size) × (result.seed ≡ seed) }
     {
-        Case {
-            rule,
-            size,
-            seed,
-            givens: marks::random(rule, size, seed),
-        }
+        with_givens(rule, size, seed, marks::random(rule, size, seed))
     }
 
     // What opening a job of the case answers.
@@ -55,7 +56,13 @@ impl Case {
         ensures { Opens self.now.size.kind self.now.rule self.now.size.w self.now.size.h (take (min self.now.size.cells 128) self.now.givens) result }
     {
         let s = self.size;
-        job::open(s.kind, self.rule, s.w, s.h, &self.givens[..s.cells.min(CELLS)])
+        job::open(
+            s.kind,
+            self.rule,
+            s.w,
+            s.h,
+            &self.givens[..s.cells.min(CELLS)],
+        )
     }
 
     // The place of the first middle one of three live marks in a line along an edge; under a rule without birth on 3 none counts. Of a target's live cells
@@ -117,7 +124,11 @@ impl Case {
         let mut givens = self.givens;
         let refusal = match s.kind {
             Kind::Mirror => {
-                let other = if crate::plain::at(&givens, n) == 1 { 0 } else { 1 }; // no edge three comes of it
+                let other = if crate::plain::at(&givens, n) == 1 {
+                    0
+                } else {
+                    1
+                }; // no edge three comes of it
                 marks::put(&mut givens, n, other);
                 Refusal::Lopsided(n.min(s.reflection(n)))
             }
@@ -134,9 +145,10 @@ impl Case {
     }
 
     // Prints a difference with the case, and counts it.
-    pub fn differs(&self, what: &[u8]) -> usize
-        ensures { result ≡ 1 }
+    pub fn differs(&self, what: &[u8], count: &mut usize)
+        ensures { count.new ≡ min (count.old + 1) (2 ^ 64 - 1) }
     {
+        counts::count(count);
         report::text(b"difference: ");
         report::text(what);
         report::line(b"\n  births ", self.rule.births);
@@ -150,6 +162,5 @@ impl Case {
             report::number(*x as usize);
         }
         report::text(b"\n");
-        1
     }
 }

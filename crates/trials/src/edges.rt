@@ -22,7 +22,11 @@ fn middle(givens: &[u8], mark: usize, none: usize, from: usize, step: usize, n: 
     let mut before = from;
     let mut place = from;
     for _ in 0..n {
-        run = if plain::at(givens, place) == mark { run.wrapping_add(1) } else { 0 };
+        run = if plain::at(givens, place) == mark {
+            run.wrapping_add(1)
+        } else {
+            0
+        };
         if run == 3 {
             return before;
         }

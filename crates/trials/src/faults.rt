@@ -33,7 +33,11 @@ pub(crate) fn random_fault(case: &Case, calls: usize, units: usize) -> Option<Fa
     let x = pseudo_random::below(16, case.seed, place);
     let some = match case.size.kind {
         Kind::Mirror => match x {
-            0..=5 => of_number(case, pseudo_random::below(8, case.seed, place.wrapping_add(100000)), units),
+            0..=5 => of_number(
+                case,
+                pseudo_random::below(8, case.seed, place.wrapping_add(100000)),
+                units,
+            ),
             6..=7 => Fault::Altered(pseudo_random::below(case.size.cells, case.seed, place)),
             8 if with_edge(case).edge_three().is_some() => Fault::EdgeThree,
             9..=11 => Fault::OtherKinds,
@@ -85,31 +89,77 @@ pub(crate) fn call_with(case: &Case, fault: Fault, job: Job) -> Option<Call> {
     let fewer = s.cells.wrapping_sub(1);
     let more = s.cells.wrapping_add(1);
     let call = match fault {
-        Fault::ShortBoard => wrong_length(exact, Lent { board: fewer, ..full }, Refusal::BoardLength),
-        Fault::LongBoard => wrong_length(exact, Lent { board: more, ..full }, Refusal::BoardLength),
+        Fault::ShortBoard => wrong_length(
+            exact,
+            Lent {
+                board: fewer,
+                ..full
+            },
+            Refusal::BoardLength,
+        ),
+        Fault::LongBoard => wrong_length(
+            exact,
+            Lent {
+                board: more,
+                ..full
+            },
+            Refusal::BoardLength,
+        ),
         Fault::ShortTable => {
             let table = s.room.wrapping_sub(1);
             wrong_length(exact, Lent { table, ..full }, Refusal::ShortTable)
         }
         Fault::ShortGivens => {
-            wrong_length(exact, Lent { givens: fewer, ..full }, Refusal::GivensLength)
+            wrong_length(
+                exact,
+                Lent {
+                    givens: fewer,
+                    ..full
+                },
+                Refusal::GivensLength,
+            )
         }
-        Fault::LongGivens => wrong_length(exact, Lent { givens: more, ..full }, Refusal::GivensLength),
-        Fault::Number => Call { job: with_number(job), ..exact },
-        Fault::Stage => Call { job: with_other_stage(job), ..exact },
+        Fault::LongGivens => wrong_length(
+            exact,
+            Lent {
+                givens: more,
+                ..full
+            },
+            Refusal::GivensLength,
+        ),
+        Fault::Number => Call {
+            job: with_number(job),
+            ..exact
+        },
+        Fault::Stage => Call {
+            job: with_other_stage(job),
+            ..exact
+        },
         Fault::Mark(place) => {
             let mut marked = *case;
             marks::put(&mut marked.givens, place, 3);
-            Call { case: marked, refusal: Refusal::Mark(place), ..exact }
+            Call {
+                case: marked,
+                refusal: Refusal::Mark(place),
+                ..exact
+            }
         }
         Fault::EdgeThree => {
             let marked = with_edge(case);
             let refusal = Refusal::EdgeThree(marked.edge_three()?);
-            Call { case: marked, refusal, ..exact }
+            Call {
+                case: marked,
+                refusal,
+                ..exact
+            }
         }
         Fault::Altered(n) => {
             let (altered, refusal) = case.altered(n);
-            Call { case: altered, refusal, ..exact }
+            Call {
+                case: altered,
+                refusal,
+                ..exact
+            }
         }
         Fault::OtherKinds => return None,
     };
@@ -117,7 +167,11 @@ pub(crate) fn call_with(case: &Case, fault: Fault, job: Job) -> Option<Call> {
 }
 
 fn wrong_length(call: Call, lent: Lent, refusal: Refusal) -> Call {
-    Call { lent, refusal, ..call }
+    Call {
+        lent,
+        refusal,
+        ..call
+    }
 }
 
 fn with_edge(case: &Case) -> Case {
@@ -157,7 +211,12 @@ pub(crate) fn are_others_refused(job: Job) -> bool {
     let Ok(numbers) = job.pause() else {
         return false;
     };
-    [Kind::Ordinary, Kind::TwoLayers, Kind::Mirror, Kind::Predecessor]
-        .iter()
-        .all(|kind| *kind == job.kind || numbers.resume(*kind) == Err(Refusal::Checkpoint))
+    [
+        Kind::Ordinary,
+        Kind::TwoLayers,
+        Kind::Mirror,
+        Kind::Predecessor,
+    ]
+    .iter()
+    .all(|kind| *kind == job.kind || numbers.resume(*kind) == Err(Refusal::Checkpoint))
 }

@@ -1,7 +1,8 @@
 // Forged numbers: jobs resumed over leftovers against a plain second implementation.
-ghost use Rattle.std.specs.Prelude.{◌≡◌};
+ghost use Rattle.std.specs.Prelude.{◌≤◌};
 
 use crate::calls::{After, Lent};
+use crate::counts::count;
 use crate::memory::Memory;
 use crate::unit::Ran;
 use crate::{Case, Rules, Size, allowances, calls, memory, unit};
@@ -13,23 +14,22 @@ use solver::Status;
 
 // What was tried of forged jobs.
 #[derive(Clone, Copy, Default)]
-pub struct Tally {
+struct Tally {
     // The stages that the jobs are resumed in: filling before row 1, filling again after a row, choosing, ended.
-    pub filling: usize,
-    pub again: usize,
-    pub choosing: usize,
-    pub ended: usize,
+    filling: usize,
+    again: usize,
+    choosing: usize,
+    ended: usize,
     // Over an edge three.
-    pub edges: usize,
+    edges: usize,
     // Working calls, and how they ended.
-    pub calls: usize,
-    pub spoiled: usize,
-    pub finished: usize,
-    pub none: usize,
+    calls: usize,
+    spoiled: usize,
+    finished: usize,
+    none: usize,
     // Entries written above 600 that are not none: of mirror boards those up to 1,200, which count in this kind alone; of predecessors those that count as none when
     // they are read.
-    pub great: usize,
-    pub wrong: usize,
+    great: usize,
 }
 
 // A job of the library, and its numbers in the second implementation, between two calls; the memory is the same for both.
@@ -40,33 +40,62 @@ struct Pair {
     memory: Memory,
 }
 
-// Forged jobs of a kind under some rules, each with its leftovers: so many.
-pub fn try_jobs(kind: Kind, rules: Rules, jobs: usize) -> Tally {
+// Forged jobs of a kind under some rules, so many, each with its leftovers: prints what was tried. The number that differ.
+pub fn try_jobs(name: &[u8], kind: Kind, rules: Rules, jobs: usize) -> usize
+    ensures { result ≤ jobs }
+{
     let mut t = Tally::default();
+    let mut wrong = 0;
     for k in 0..jobs {
         let seed = k.wrapping_add(3000000);
-        try_job(&Case::random(rules.rule(seed), random_size(kind, seed), seed), &mut t);
+        let case = Case::random(rules.rule(seed), random_size(kind, seed), seed);
+        if let Some(what) = first_difference(&case, &mut t) {
+            case.differs(what, &mut wrong);
+        }
     }
-    t
+    report::line(name, jobs);
+    print(kind, t);
+    report::line(b"  differences from a plain unit: ", wrong);
+    wrong
 }
 
-fn count(n: &mut usize) {
-    *n = n.wrapping_add(1);
+// The counts that a kind can have.
+fn print(kind: Kind, t: Tally) {
+    report::line(b"  resumed before row 1, filling: ", t.filling);
+    if kind == Kind::Ordinary || kind == Kind::TwoLayers {
+        report::line(b"  resumed after a row, filling again: ", t.again);
+    }
+    report::line(b"  resumed at a row to be chosen: ", t.choosing);
+    if kind != Kind::Mirror {
+        report::line(b"  resumed at the end: ", t.ended);
+    }
+    if kind != Kind::Predecessor {
+        report::line(b"  over an edge three: ", t.edges);
+    }
+    report::line(b"  working calls: ", t.calls);
+    match kind {
+        Kind::Mirror => report::line(b"  entries written of 601 to 1,200: ", t.great),
+        Kind::Predecessor => report::line(b"  entries written above 600: ", t.great),
+        _ => {}
+    }
+    report::line(b"  refused for a spoiled table: ", t.spoiled);
+    report::line(b"  finished: ", t.finished);
+    report::line(b"  none: ", t.none);
 }
 
 // Resumes a job of random numbers, and tries it.
-fn try_job(case: &Case, t: &mut Tally) {
+fn first_difference(case: &Case, t: &mut Tally) -> Option<&'static [u8]> {
     let numbers = random_numbers(case);
     let Ok(job) = numbers.resume(case.size.kind) else {
-        t.wrong = t.wrong.wrapping_add(case.differs(b"a job that resuming refuses"));
-        return;
+        return Some(b"a job that resuming refuses");
     };
     count_stage(case.size, numbers, t);
-    if case.size.kind != Kind::Predecessor {
-        if let Some(place) = case.edge_three() {
-            try_edge(case, job, Refusal::EdgeThree(place), t);
-            return;
+    match case.edge_three() {
+        Some(place) if case.size.kind != Kind::Predecessor => {
+            count(&mut t.edges);
+            return over_edge(case, job, Refusal::EdgeThree(place));
         }
+        _ => {}
     }
     let mut p = Pair {
         job,
@@ -76,10 +105,24 @@ fn try_job(case: &Case, t: &mut Tally) {
     for k in 0..6usize {
         let allowance = allowances::random(case.size.fills, case.seed, k + 600000);
         if !try_call(case, allowance, &mut p, t) {
-            t.wrong = t.wrong.wrapping_add(case.differs(b"a call on a forged job"));
-            return;
+            return Some(b"a call on a forged job");
         }
     }
+    None
+}
+
+// A call over an edge three is refused.
+fn over_edge(case: &Case, job: Job, refusal: Refusal) -> Option<&'static [u8]> {
+    let call = calls::Call {
+        case: *case,
+        job,
+        lent: Lent::exact(case.size),
+        refusal,
+    };
+    if calls::is_refused(&call, &Memory::spoiled(case)) {
+        return None;
+    }
+    Some(b"a forged job over an edge three")
 }
 
 // Counts the stage that a job is resumed in.
@@ -95,20 +138,6 @@ fn count_stage(s: Size, c: Checkpoint, t: &mut Tally) {
     }
 }
 
-// A call over an edge three is refused.
-fn try_edge(case: &Case, job: Job, refusal: Refusal, t: &mut Tally) {
-    count(&mut t.edges);
-    let call = calls::Call {
-        case: *case,
-        job,
-        lent: Lent::exact(case.size),
-        refusal,
-    };
-    if !calls::is_refused(&call, &Memory::spoiled(case)) {
-        t.wrong = t.wrong.wrapping_add(case.differs(b"a forged job over an edge three"));
-    }
-}
-
 // A size whose table fits the memory; for two layers one whose job is not too long.
 fn random_size(kind: Kind, seed: usize) -> Size {
     let mirror = kind == Kind::Mirror;
@@ -116,7 +145,15 @@ fn random_size(kind: Kind, seed: usize) -> Size {
     let few = pseudo_random::below(2, seed, 500001) == 0;
     let most = if few { 4 } else { most_rows(kind, digits) };
     let h = pseudo_random::below(most, seed, 500002).wrapping_add(1);
-    Size::new(kind, if mirror { digits.wrapping_mul(2) } else { digits }, h)
+    Size::new(
+        kind,
+        if mirror {
+            digits.wrapping_mul(2)
+        } else {
+            digits
+        },
+        h,
+    )
 }
 
 fn most_rows(kind: Kind, digits: usize) -> usize {
@@ -219,7 +256,9 @@ fn try_call(case: &Case, allowance: u32, p: &mut Pair, t: &mut Tally) -> bool {
     let r = calls::work(case, p.job, Lent::exact(case.size), p.memory, allowance);
     let plain = unit::work(case, p.numbers, p.memory, allowance);
     count(&mut t.calls);
-    t.great = t.great.wrapping_add(great_entries(case.size.kind, &p.memory, &plain.memory));
+    t.great = t
+        .great
+        .wrapping_add(great_entries(case.size.kind, &p.memory, &plain.memory));
     match plain.numbers.mark {
         1 => count(&mut t.finished),
         2 => count(&mut t.none),
@@ -234,7 +273,11 @@ fn try_call(case: &Case, allowance: u32, p: &mut Pair, t: &mut Tally) -> bool {
 
 // The entries above 600 that count or are not none, among those that differ.
 fn great_entries(kind: Kind, before: &Memory, after: &Memory) -> usize {
-    let most = if kind == Kind::Mirror { memory::most(kind) } else { 65534 };
+    let most = if kind == Kind::Mirror {
+        memory::most(kind)
+    } else {
+        65534
+    };
     before
         .table
         .iter()

@@ -5,6 +5,7 @@
 mod allowances;
 mod calls;
 mod cases;
+mod counts;
 mod edges;
 mod faults;
 pub mod forged;
@@ -13,14 +14,14 @@ mod marks;
 mod memory;
 mod pieces;
 pub mod plain;
-
 mod rules;
 pub mod runs;
 mod sizes;
 mod unit;
 
-pub use cases::{CELLS, Case};
 pub use calls::After;
+pub use cases::{CELLS, Case};
+pub use counts::count;
 pub use jobs::resumed;
 pub use memory::Memory;
 pub use rules::Rules;

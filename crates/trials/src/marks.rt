@@ -46,17 +46,18 @@ impl Masks {
 }
 
 fn marked(givens: &[u8], from: usize, n: usize, mark: u8) -> usize {
-    givens
-        .iter()
-        .skip(from)
-        .take(n)
-        .fold(0usize, |x, given| x.wrapping_mul(2).wrapping_add(if *given == mark { 1 } else { 0 }))
+    givens.iter().skip(from).take(n).fold(
+        0usize,
+        |x, given| x
+            .wrapping_mul(2)
+            .wrapping_add(if *given == mark { 1 } else { 0 }),
+    )
 }
 
 // Writes a byte at a place, unless it is past the end.
 pub(crate) fn put(cells: &mut [u8], k: usize, x: u8) {
-    if k < cells.len() {
-        cells[k] = x;
+    if let Some(cell) = cells.get_mut(k) {
+        *cell = x;
     }
 }
 
@@ -97,7 +98,12 @@ pub(crate) fn random(rule: Rule, s: Size, seed: usize) -> [u8; CELLS] {
     let most = pseudo_random::below(6, seed, 200000);
     let mut givens = [0; CELLS];
     for k in 0..s.digits.wrapping_mul(s.h) {
-        put_mark(&mut givens, s, k, random_mark(most, seed, k.wrapping_add(200001)));
+        put_mark(
+            &mut givens,
+            s,
+            k,
+            random_mark(most, seed, k.wrapping_add(200001)),
+        );
     }
     givens
 }
@@ -150,7 +156,11 @@ fn stepped(rule: Rule, s: Size, board: &[u8]) -> [u8; CELLS] {
         let row = |r: usize| plain::row_of(board, s.w, s.h, r);
         let rows = [row(r), row(r.wrapping_add(1)), row(r.wrapping_add(2))];
         let column = (s.w - k % s.w) % 64;
-        put(&mut cells, k, (plain::next(rule, rows, column as u32) % 2) as u8);
+        put(
+            &mut cells,
+            k,
+            (plain::next(rule, rows, column as u32) % 2) as u8,
+        );
     }
     cells
 }
@@ -179,5 +189,7 @@ pub(crate) fn put_edge(cells: &mut [u8], s: Size) {
 
 // The place of the first byte of 2 or more.
 pub(crate) fn first_bad(target: &[u8], cells: usize) -> usize {
-    (0..cells).find(|k| 1 < plain::at(target, *k)).unwrap_or(cells)
+    (0..cells)
+        .find(|k| 1 < plain::at(target, *k))
+        .unwrap_or(cells)
 }

@@ -1,5 +1,6 @@
 // A run in pieces: random allowances, each call after a pause and a resumption, and calls in between that must be refused.
 use crate::calls::Lent;
+use crate::counts::count;
 use crate::faults::Fault;
 use crate::memory::Memory;
 use crate::plain::Best;
@@ -46,13 +47,18 @@ pub(crate) fn run(case: &Case, best: Option<Best>, job: Job, one: &Memory) -> Pi
         },
     };
     if let Some(what) = first_difference(case, best, &mut t, one) {
-        t.so_far.wrong = case.differs(what);
+        case.differs(what, &mut t.so_far.wrong);
     }
     t.so_far
 }
 
 // What differs first: in the turns, or in the memory that they leave.
-fn first_difference(case: &Case, best: Option<Best>, t: &mut Turn, one: &Memory) -> Option<&'static [u8]> {
+fn first_difference(
+    case: &Case,
+    best: Option<Best>,
+    t: &mut Turn,
+    one: &Memory,
+) -> Option<&'static [u8]> {
     if let Some(what) = all_turns(case, best, t) {
         return Some(what);
     }
@@ -95,7 +101,7 @@ fn next_turn(case: &Case, best: Option<Best>, t: &mut Turn) -> Option<&'static [
         if !is_refused(case, fault, t) {
             return Some(b"a call to be refused, or a resumption as another kind");
         }
-        count(fault, &mut t.so_far);
+        count_refused(fault, &mut t.so_far);
     }
     work_on(case, best, t)
 }
@@ -107,15 +113,15 @@ fn is_refused(case: &Case, fault: Fault, t: &Turn) -> bool {
     }
 }
 
-fn count(fault: Fault, p: &mut Pieces) {
+fn count_refused(fault: Fault, p: &mut Pieces) {
     if fault == Fault::OtherKinds {
-        p.others = p.others.wrapping_add(1);
+        count(&mut p.others);
         return;
     }
-    p.refused = p.refused.wrapping_add(1);
+    count(&mut p.refused);
     match fault {
-        Fault::EdgeThree => p.edges = p.edges.wrapping_add(1),
-        Fault::Altered(_) => p.altered = p.altered.wrapping_add(1),
+        Fault::EdgeThree => count(&mut p.edges),
+        Fault::Altered(_) => count(&mut p.altered),
         _ => {}
     }
 }
@@ -128,9 +134,13 @@ fn work_on(case: &Case, best: Option<Best>, t: &mut Turn) -> Option<&'static [u8
     t.job = r.job;
     t.memory = r.memory;
     t.sum = t.sum.wrapping_add(allowance as usize);
-    t.so_far.calls = t.so_far.calls.wrapping_add(1);
+    count(&mut t.so_far.calls);
     let length = calls::length(case.size, best);
-    let status = if length <= t.sum { calls::end_of(best) } else { Status::Unfinished };
+    let status = if length <= t.sum {
+        calls::end_of(best)
+    } else {
+        Status::Unfinished
+    };
     if r.status == Ok(status) && r.job.units == length.min(t.sum) {
         return None;
     }

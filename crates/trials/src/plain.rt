@@ -18,11 +18,10 @@ pub(crate) fn at(cells: &[u8], k: usize) -> usize {
 pub fn number_of(cells: &[u8], from: usize, n: usize) -> usize
     ensures { result ≡ fold (λ x cell. (x * 2 % 2 ^ 64 + cell) % 2 ^ 64) 0 (take n (drop from cells.now)) }
 {
-    cells
-        .iter()
-        .skip(from)
-        .take(n)
-        .fold(0usize, |x, cell| x.wrapping_mul(2).wrapping_add(*cell as usize))
+    cells.iter().skip(from).take(n).fold(
+        0usize,
+        |x, cell| x.wrapping_mul(2).wrapping_add(*cell as usize),
+    )
 }
 
 // The row of a board by its number, from 1 on; the ring's, 0 and h + 1, is dead.
@@ -49,7 +48,9 @@ pub fn next(rule: Rule, rows: [usize; 3], j: u32) -> usize
 {
     let [above, row, below] = rows;
     let centre = cell(row, j);
-    let all = three(above, j).wrapping_add(three(row, j)).wrapping_add(three(below, j));
+    let all = three(above, j)
+        .wrapping_add(three(row, j))
+        .wrapping_add(three(below, j));
     if centre == 0 {
         return rule.births >> (all % 64) & 1;
     }

@@ -2,9 +2,10 @@
 ghost use Rattle.std.specs.Prelude.{◌≤◌};
 
 use crate::calls::{After, Lent};
+use crate::counts::add;
 use crate::memory::Memory;
 use crate::plain::Best;
-use crate::{Case, calls, pieces};
+use crate::{Case, calls, counts, pieces};
 
 // What was tried.
 #[derive(Clone, Copy, Default)]
@@ -25,17 +26,21 @@ pub struct Runs {
 pub fn try_case(case: &Case, best: Option<Best>, runs: &mut Runs) -> Option<After>
     ensures { (runs.old.jobs ≤ runs.new.jobs) × (runs.old.wrong ≤ runs.new.wrong) × (runs.old.unlike ≤ runs.new.unlike) }
 {
-    add(&mut runs.jobs, 1);
+    counts::count(&mut runs.jobs);
     let Ok(job) = case.open() else {
-        add(&mut runs.wrong, case.differs(b"the opening"));
+        case.differs(b"the opening", &mut runs.wrong);
         return None;
     };
-    let r = calls::work(case, job, Lent::exact(case.size), Memory::spoiled(case), u32::MAX);
-    let wrong = match difference(case, best, &r) {
-        Some(what) => case.differs(what),
-        None => 0,
-    };
-    add(&mut runs.wrong, wrong);
+    let r = calls::work(
+        case,
+        job,
+        Lent::exact(case.size),
+        Memory::spoiled(case),
+        u32::MAX,
+    );
+    if let Some(what) = difference(case, best, &r) {
+        case.differs(what, &mut runs.wrong);
+    }
     let again = Case {
         seed: case.seed.wrapping_add(5000000),
         ..*case
@@ -48,12 +53,6 @@ pub fn try_case(case: &Case, best: Option<Best>, runs: &mut Runs) -> Option<Afte
     add(&mut runs.others, p.others);
     add(&mut runs.unlike, p.wrong);
     Some(r)
-}
-
-fn add(n: &mut usize, more: usize)
-    ensures { n.old ≤ n.new }
-{
-    *n = n.saturating_add(more);
 }
 
 // What differs where a run answered anything else than enumeration found, left another board, or wrote anything but what it needs.

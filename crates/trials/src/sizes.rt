@@ -39,7 +39,11 @@ impl Size {
         let layer = rows.wrapping_mul(rows);
         let entries = layer.wrapping_mul(h);
         let two = kind == Kind::TwoLayers;
-        let fills = if two { filled_again(layer, h, h) } else { entries };
+        let fills = if two {
+            filled_again(layer, h, h)
+        } else {
+            entries
+        };
         Size {
             kind,
             w,

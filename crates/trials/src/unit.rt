@@ -85,7 +85,11 @@ fn choose(case: &Case, c: Checkpoint, table: &[u16], board: &mut [u8]) -> Checkp
     let Some(best) = best_below(case, before.wrapping_add(1), c.above, c.last, table) else {
         // the job ends where it is row 1, and otherwise stands before it
         return if before == 0 {
-            Checkpoint { units, mark: 2, ..c }
+            Checkpoint {
+                units,
+                mark: 2,
+                ..c
+            }
         } else {
             Checkpoint { mark: 3, ..c }
         };
@@ -137,7 +141,9 @@ fn best_below(case: &Case, k: usize, a: usize, b: usize, table: &[u16]) -> Optio
     for d in 0..s.rows {
         let row = if least { d } else { s.rows - 1 - d };
         let whole = s.whole(row);
-        let entry = load(table, place_of(s, k, b, row));
+        let entry = table
+            .get(place_of(s, k, b, row))
+            .map_or(65535, |entry| *entry as usize);
         let is_counted = entry <= memory::most(s.kind) && masks.keep(whole);
         if is_counted && plain::steps(case.rule, s.w, [above, middle, whole], to) {
             let score = masks.score(whole);
@@ -153,13 +159,7 @@ fn best_below(case: &Case, k: usize, a: usize, b: usize, table: &[u16]) -> Optio
 fn is_better(least: bool, sum: usize, best: Option<Below>) -> bool {
     match best {
         None => true,
-        Some(b) => {
-            if least {
-                sum < b.sum
-            } else {
-                b.sum < sum
-            }
-        }
+        Some(b) => { if least { sum < b.sum } else { b.sum < sum } }
     }
 }
 
@@ -173,13 +173,6 @@ fn place_of(s: Size, i: usize, a: usize, b: usize) -> usize {
         .wrapping_mul(s.layer)
         .wrapping_add(a.wrapping_mul(s.rows))
         .wrapping_add(b)
-}
-
-fn load(table: &[u16], k: usize) -> usize {
-    match table.get(k) {
-        Some(entry) => *entry as usize,
-        None => 65535,
-    }
 }
 
 // The job of these numbers; one that could not choose a row stands before it.

@@ -64,22 +64,21 @@ pub fn by_steps(t: Turn, a: Cells) -> Cells {
 
 // Left and right exchanged.
 fn exchanged(a: Cells) -> Cells {
-    let mut next = cells::blank(a.w, a.h);
-    for k in 0..cells::CELLS {
-        let r = cells::row(a.w, k);
-        let c = cells::column(a.w, k);
-        next.at[k] = cells::cell(a, r, cells::from_end(a.w, c));
-    }
-    next
+    cells_by(a.w, a.h, |r, c| cells::cell(a, r, cells::from_end(a.w, c)))
 }
 
 // A quarter turn clockwise: a column from its foot up becomes a row.
 fn quarter(a: Cells) -> Cells {
-    let mut next = cells::blank(a.h, a.w);
+    cells_by(a.h, a.w, |r, c| cells::cell(a, cells::from_end(a.h, c), r))
+}
+
+// The cells of a size, by row and column.
+fn cells_by<F: Fn(usize, usize) -> u8>(w: usize, h: usize, cell: F) -> Cells
+    requires { F.IsAlwaysCallable cell }
+{
+    let mut next = cells::blank(w, h);
     for k in 0..cells::CELLS {
-        let r = cells::row(a.h, k);
-        let c = cells::column(a.h, k);
-        next.at[k] = cells::cell(a, cells::from_end(a.h, c), r);
+        next.at[k] = cell(cells::row(w, k), cells::column(w, k));
     }
     next
 }

@@ -103,5 +103,7 @@ fn keeps_mark(mark: u8, state: u8) -> bool {
 // The live cells that are free.
 fn live_free(givens: Cells, board: Cells) -> usize {
     let pairs = givens.at.iter().zip(board.at.iter());
-    pairs.filter(|(mark, state)| **mark == 0 && **state == 1).count()
+    pairs
+        .filter(|(mark, state)| **mark == 0 && **state == 1)
+        .count()
 }

@@ -53,7 +53,12 @@ fn try_random() {
 // Seeds and Walled Cities are without birth on 3.
 fn try_rules() {
     let up_to_five = Group::UpToFive;
-    try_group(b"HighLife, up to 5 by 5: ", up_to_five, Rules::HighLife, 100);
+    try_group(
+        b"HighLife, up to 5 by 5: ",
+        up_to_five,
+        Rules::HighLife,
+        100,
+    );
     try_group(
         b"Life without death, up to 5 by 5: ",
         up_to_five,

@@ -54,10 +54,10 @@ fn try_pair(first: Turn, second: Turn, list: Cells, t: &mut Tally) {
     let once = eight_turns::then(first, second);
     let by_steps = eight_turns::by_steps(second, eight_turns::by_steps(first, list));
     let at_once = eight_turns::at_once(second, eight_turns::at_once(first, list));
-    t.pairs = t.pairs.wrapping_add(1);
+    trials::count(&mut t.pairs);
     t.alike = t.alike.wrapping_add(alike(list, by_steps));
     if !is_turned(once, list, by_steps) || !is_turned(once, list, at_once) {
-        t.wrong = t.wrong.wrapping_add(1);
+        trials::count(&mut t.wrong);
     }
 }
 
@@ -75,8 +75,8 @@ fn is_turned(t: Turn, list: Cells, turned: Cells) -> bool {
 
 fn try_inverse(turn: Turn, list: Cells, t: &mut Tally) {
     let back = eight_turns::inverse(turn);
-    t.inverses = t.inverses.wrapping_add(1);
+    trials::count(&mut t.inverses);
     if !is_turned(back, eight_turns::by_steps(turn, list), list) {
-        t.wrong = t.wrong.wrapping_add(1);
+        trials::count(&mut t.wrong);
     }
 }

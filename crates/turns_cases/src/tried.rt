@@ -6,6 +6,7 @@ use crate::grids::Group;
 use crate::{answers, cells, eight_turns, grids};
 use job_kind::Kind;
 use rule::Rule;
+use trials::count;
 
 // A grid, and what the library answers for it.
 #[derive(Clone, Copy)]
@@ -54,10 +55,6 @@ pub fn try_group(name: &[u8], group: Group, rule: Rule, end: usize) {
         try_grid(rule, k, grids::grid(group, k), &mut t);
     }
     print(name, t);
-}
-
-fn count(n: &mut usize) {
-    *n = n.wrapping_add(1);
 }
 
 fn try_grid(rule: Rule, seed: usize, givens: Cells, t: &mut Tally) {
