@@ -56,8 +56,7 @@ fn next_row(rule: Rule, s: Size, rows: [usize; 3]) -> usize {
     cells
 }
 
-// Goes through the boards of a size in their order, and leaves at each target's number one more than that of the first board with the fewest live cells
-// that steps to it, or 0 where there is none.
+// Goes through the boards of a size in their order, and leaves at each target's number the first board with the fewest live cells that steps to it.
 pub fn enumerate(rule: Rule, s: Size, firsts: &mut [Option<usize>]) {
     firsts.fill(None);
     for board in 0..boards(s) {

@@ -1,11 +1,11 @@
 // A case to try: a rule, a size, and what is lent to be read.
-ghost use Rattle.std.specs.Prelude.{◌≡◌, ◌+◌, ◌-◌, ◌^◌, ◌<◌, IfSome, IsTrue, Ok, Err, take, min};
-ghost use Rattle.job.specs.Calls.{Opens};
+ghost use Rattle.std.specs.Prelude.{◌≡◌, ◌+◌, ◌-◌, ◌^◌, ◌<◌, IfSome, IsTrue, Ok, Err, min};
 ghost use Rattle.job.specs.declared.Job.{Job};
+ghost use Rattle.trials.specs.Cases.{CaseOpens};
 
 use crate::calls::{Call, Lent};
 use crate::memory::Memory;
-use crate::{Size, calls, counts, edges, jobs, marks, memory};
+use crate::{Size, calls, counts, jobs, lines, marks, memory, plain};
 use board::Refusal;
 use job::Job;
 use job_kind::Kind;
@@ -53,7 +53,7 @@ impl Case {
 
     // What opening a job of the case answers.
     pub fn open(&self) -> Result<Job, Refusal>
-        ensures { Opens self.now.size.kind self.now.rule self.now.size.w self.now.size.h (take (min self.now.size.cells 128) self.now.givens) result }
+        ensures { CaseOpens self.now result }
     {
         let s = self.size;
         job::open(
@@ -65,23 +65,23 @@ impl Case {
         )
     }
 
-    // The place of the first middle one of three live marks in a line along an edge; under a rule without birth on 3 none counts. Of a target's live cells
-    // under every rule: these are not refused.
+    // The place of the first middle one of three live marks in a line along an edge; under a rule without birth on 3 none counts. Of a target's
+    // live cells under every rule: these are not refused.
     pub fn edge_three(&self) -> Option<usize>
         ensures { IfSome result (λ p. p < self.now.size.cells) }
     {
         if self.size.kind == Kind::Predecessor {
-            return edges::first_three(self.size, &self.givens, 1);
+            return lines::first_three(self.size, &self.givens, 1);
         }
         if self.rule.births & 8 == 0 {
             return None;
         }
-        edges::first_three(self.size, &self.givens, 2)
+        lines::first_three(self.size, &self.givens, 2)
     }
 
     // Whether opening and working turn the case away, and working writes nothing.
     pub fn is_turned_away(&self, refusal: Refusal) -> bool
-        ensures { IsTrue result → Opens self.now.size.kind self.now.rule self.now.size.w self.now.size.h (take (min self.now.size.cells 128) self.now.givens) (Err refusal) }
+        ensures { IsTrue result → CaseOpens self.now (Err refusal) }
     {
         match self.open() {
             Ok(_) => false,
@@ -103,7 +103,7 @@ impl Case {
 
     // Whether opening takes the case, and working on it begins, or is refused by 6 where the memory has no room for its table.
     pub fn is_worked_on(&self) -> bool
-        ensures { IsTrue result → (j : Job) × Opens self.now.size.kind self.now.rule self.now.size.w self.now.size.h (take (min self.now.size.cells 128) self.now.givens) (Ok j) }
+        ensures { IsTrue result → (j : Job) × CaseOpens self.now (Ok j) }
     {
         let Ok(job) = self.open() else {
             return false;
@@ -115,8 +115,8 @@ impl Case {
         r.status == Ok(Status::Unfinished)
     }
 
-    // The case with marks altered so that it is turned away, and by what: of mirror boards mark n, dead or free in the place of another, which makes the grid
-    // lopsided; of a target bytes of 2 or more, by n as a seed; of other givens mark n, which is no mark then.
+    // The case with marks altered so that it is turned away, and by what: of mirror boards mark n, dead or free in the place of another, which
+    // makes the grid lopsided; of a target bytes of 2 or more, by n as a seed; of other givens mark n, which is no mark then.
     pub fn altered(&self, n: usize) -> (Case, Refusal)
         ensures { (result.0.rule ≡ self.now.rule) × (result.0.size ≡ self.now.size) × (result.0.seed ≡ self.now.seed) }
     {
@@ -124,12 +124,8 @@ impl Case {
         let mut givens = self.givens;
         let refusal = match s.kind {
             Kind::Mirror => {
-                let other = if crate::plain::at(&givens, n) == 1 {
-                    0
-                } else {
-                    1
-                }; // no edge three comes of it
-                marks::put(&mut givens, n, other);
+                let is_dead = plain::at(&givens, n) == 1;
+                marks::put(&mut givens, n, if is_dead { 0 } else { 1 }); // no edge three comes of it
                 Refusal::Lopsided(n.min(s.reflection(n)))
             }
             Kind::Predecessor => {

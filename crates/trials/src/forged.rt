@@ -27,8 +27,8 @@ struct Tally {
     spoiled: usize,
     finished: usize,
     none: usize,
-    // Entries written above 600 that are not none: of mirror boards those up to 1,200, which count in this kind alone; of predecessors those that count as none when
-    // they are read.
+    // Entries written above 600 that are not none: of mirror boards those up to 1,200, which count in this kind alone; of predecessors those that
+    // count as none when they are read.
     great: usize,
 }
 

@@ -1,15 +1,15 @@
-// What the programs share that try the solver: cases to try, what a plain second implementation finds of them, written apart from the library, and runs
-// of jobs that are held to it.
+// What the programs share that try the solver: cases to try, what a plain second implementation finds of them, written apart from the solver, and
+// runs of jobs that are held to it.
 #![tactic(auto)]
 
 mod allowances;
 mod calls;
 mod cases;
 mod counts;
-mod edges;
 mod faults;
 pub mod forged;
 mod jobs;
+mod lines;
 mod marks;
 mod memory;
 mod pieces;

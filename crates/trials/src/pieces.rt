@@ -126,7 +126,8 @@ fn count_refused(fault: Fault, p: &mut Pieces) {
     }
 }
 
-// The working call of a turn. At every third one the table has no entry to spare. The units are the allowances' sum, but no more than the job's length.
+// The working call of a turn. At every third one the table has no entry to spare. The units are the allowances' sum, but no more than the job's
+// length.
 fn work_on(case: &Case, best: Option<Best>, t: &mut Turn) -> Option<&'static [u8]> {
     let allowance = allowances::random(case.size.fills, case.seed, t.so_far.calls);
     let lent = Lent::with_spare(case.size, t.so_far.calls % 3);

@@ -84,8 +84,8 @@ pub struct Best {
     pub tied: bool,
 }
 
-// The first best still board that keeps the givens, of mirror jobs the first best mirror board: from the greatest number down of those whose digits are
-// the rows as they are held, row 1's first, which is the greatest rows first.
+// The first best still board that keeps the givens, of mirror jobs the first best mirror board: from the greatest number down of those whose digits
+// are the rows as they are held, row 1's first, which is the greatest rows first.
 pub fn best_board(case: &Case) -> Option<Best>
     ensures { IfSome result (λ b. b.score ≤ 64) }
 {

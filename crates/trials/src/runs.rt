@@ -12,7 +12,8 @@ use crate::{Case, calls, counts, pieces};
 pub struct Runs {
     pub jobs: usize,
     pub wrong: usize,
-    // In pieces: working calls that passed, calls refused, those of them over an edge three and over altered marks, resumptions as the other kinds, differences.
+    // In pieces: working calls that passed, calls refused, those of them over an edge three and over altered marks, resumptions as the other
+    // kinds, differences.
     pub calls: usize,
     pub refused: usize,
     pub edges: usize,
@@ -21,8 +22,8 @@ pub struct Runs {
     pub unlike: usize,
 }
 
-// Runs a case and holds it to what enumeration finds: over leftovers, and in pieces over others. No count goes down. The answer of the first run and the
-// memory that it left, or none where opening is refused.
+// Runs a case and holds it to what enumeration finds: over leftovers, and in pieces over others. No count goes down. The answer of the first run
+// and the memory that it left, or none where opening is refused.
 pub fn try_case(case: &Case, best: Option<Best>, runs: &mut Runs) -> Option<After>
     ensures { (runs.old.jobs ≤ runs.new.jobs) × (runs.old.wrong ≤ runs.new.wrong) × (runs.old.unlike ≤ runs.new.unlike) }
 {

@@ -124,8 +124,8 @@ struct Below {
     sum: usize,
 }
 
-// The best row k below a over b, where the entry counts, the givens are kept, and the row above it steps to what is wanted: the greatest sum, and among equals
-// the greatest row; of predecessors the least, and the smallest.
+// The best row k below a over b, where the entry counts, the givens are kept, and the row above it steps to what is wanted: the greatest sum, and
+// among equals the greatest row; of predecessors the least, and the smallest.
 fn best_below(case: &Case, k: usize, a: usize, b: usize, table: &[u16]) -> Option<Below> {
     let s = case.size;
     let least = s.kind == Kind::Predecessor;

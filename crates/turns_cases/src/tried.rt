@@ -105,8 +105,8 @@ fn try_turn(case: &Case, n: usize, t: &mut Tally) {
     compare(case, turn, givens, answers::solve(way, givens), t);
 }
 
-// The answers are the same, and where there are boards they fit: the grid's board, turned, and the turned grid's own are still, keep the turned givens, and
-// have the score.
+// The answers are the same, and where there are boards they fit: the grid's board, turned, and the turned grid's own are still, keep the turned
+// givens, and have the score.
 fn compare(case: &Case, turn: Turn, givens: Cells, own: Solution, t: &mut Tally) {
     if !answers::are_same(case.first.answer, own.answer) {
         differ(b"the answer", case, turn, t);
