@@ -1,11 +1,14 @@
 // What every call on a board shares: the refusals, and the checks of a size, a board, a grid of givens, a target and a table.
 #![tactic(auto)]
 
-ghost use Rattle.std.specs.Prelude.{◌≡◌, ◌*◌, eqb, length, position, nat_lt};
-ghost use Rattle.board.specs.Answers.{number_of, check_says};
+ghost use Rattle.std.specs.Prelude.{◌≡◌, ◌*◌, eqb, length, position, nat_lt, option_to_list};
+ghost use Rattle.board.specs.Answers.{number_of, values_of, check_says};
 ghost use Rattle.board.specs.Boards.{among, row_digits, width_fits, byte_at};
 ghost use Rattle.board.specs.Checks.{width_check, height_check, size_check, cells_check, board_check, marks_check, givens_check, target_check, at_most, table_size_within, table_check};
 ghost use Rattle.board.specs.Search.{first_not};
+
+use std::error::Error;
+use std::fmt;
 
 // Why a call is turned away, in the order of the documents' numbers, with the first wrong place where they give one.
 #[derive(Clone, Copy, Debug, PartialEq, Eq)]
@@ -34,7 +37,33 @@ pub struct ChosenRow {
     pub worth: usize,
 }
 
+impl Error for Refusal {}
+
+// As programs print it: the number, and the place where there is one.
+impl fmt::Display for Refusal {
+    fn fmt<W: fmt::Write>(&self, f: &mut fmt::Formatter<W>) -> fmt::Result {
+        match self.place() {
+            Some(place) => write!(f, "{} at {place}", self.number()),
+            None => write!(f, "{}", self.number()),
+        }
+    }
+}
+
 impl Refusal {
+    // The place that a refusal gives: the first wrong one, from 0.
+    pub fn place(self) -> Option<usize>
+        ensures { option_to_list result ≡ values_of self }
+    {
+        match self {
+            Refusal::Mark(place)
+            | Refusal::Letter(place)
+            | Refusal::Cell(place)
+            | Refusal::EdgeThree(place)
+            | Refusal::Lopsided(place) => Some(place),
+            _ => None,
+        }
+    }
+
     // The number of document 01's table; 13 is Req 02's, 14 Req 04's, 15 Req 06's.
     pub fn number(self) -> u8
         ensures { result ≡ number_of self }

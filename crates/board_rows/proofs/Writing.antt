@@ -2,7 +2,7 @@
 -- Assumes nothing.
 use mathlib.Core.Path.{◌≡◌, refl, sym, ◌∙◌, ap, ap₂}
 use mathlib.Core.Bool.{Bool, true, false, cond}
-use mathlib.Core.List.{List}
+use mathlib.Core.List.{List, ◌++◌}
 use mathlib.Core.Logic.{⊎_elim}
 use Prim.Native.Nat.{ℕ, zero, suc, ◌+◌, ◌*◌, ◌-◌, ◌/◌, ◌^◌, ◌<◌, ◌≤◌}
 use native.Mathlib.Nat.{not-suc-le-zero, div-div-eq-div-mul, pow-suc, div-eq_of_lt, div-one, div-lt_iff_lt-mul}
@@ -12,8 +12,12 @@ use native.Mathlib.Decide.{ℕ_discrete}
 use borrow.Author.Tests.{lt-ltb, le-ltb, le-leb, lt-leb}
 use lib.Dec.{ltb, leb}
 use lib.Pow.{pow_mono}
-use lib.ListN.{length, get_or, set, length-set}
-use lib.Seq.{get_or-set_same, get_or-set_other}
+use lib.ListN.{length, get_or, set, take, drop, length-set, length-drop, take-append-drop}
+use lib.Seq.{get_or-set_same, get_or-set_other, length-take-le}
+use borrow.Rule.Slice.PartMut.{put_mid}
+use Rattle.std.proofs.lemmas.List.{set-append_right}
+use Rattle.board.specs.Lists.{listed}
+use Rattle.board.proofs.Lists.{listed_more}
 use Rattle.elimination.proofs.Numbers.{lt_or_ge}
 use Rattle.life.specs.Rows.{row_number, digit_at}
 use Rattle.board_rows.specs.Rows.{row_cell, written, put_row, read_row}
@@ -55,6 +59,18 @@ module _ (cells : ℕ → ℕ) (board : List ℕ) (at : ℕ) where
             rw e (get_or-set_same (written cells board at m) (at + m) (cells m) 0 i)
         | no ne ↦ get_or-set_other (written cells board at m) (at + m) (at + k) (cells m) 0 (omega arith) ∙ written_cell m k (omega arith) (omega arith)
       ]
+
+  -- they stand in the place of as many bytes
+  pub written_part : (m : ℕ) → at + m ≤ length board → put_mid at m board (listed cells m) ≡ written cells board at m
+  unfolding written listed
+  written_part zero l = take-append-drop at board
+  written_part (suc m) l =
+      let part = drop at board in
+      let before : length (take at board) ≡ at = length-take-le at board (omega arith) in
+      let more : set (listed cells m ++ drop m part) m (cells m) ≡ listed cells (suc m) ++ drop (suc m) part =
+      rw add-one at (listed_more cells part m (omega (arith, length-drop at board))) in
+      let e : at + m - at ≡ m = omega arith in
+      rw (← (written_part m (omega arith)), set-append_right (take at board) (listed cells m ++ drop m part) at (at + m) (cells m) before (omega arith), e, more)
 
 -- ---- a row's number
 -- the first cells are the digits from the left

@@ -3,7 +3,8 @@
 
 ghost use Rattle.std.specs.Prelude.{◌≡◌, ◌+◌, ◌≤◌, length};
 ghost use Rattle.life.specs.Rows.{digit_at};
-ghost use Rattle.board_rows.specs.Rows.{row_cell, written};
+ghost use Rattle.board.specs.Lists.{listed};
+ghost use Rattle.board_rows.specs.Rows.{row_cell};
 ghost use Rattle.board_rows.specs.Calls.{row_writes};
 
 // Writes the row with r rows above it, of w cells, from a number of so many binary digits. The digits are its cells from the left; a row of up to
@@ -17,21 +18,21 @@ pub fn write_row(bits: usize, w: usize, r: usize, row: usize, board: &mut [u8])
     if board.len() / w <= r {
         return;
     }
-    write_cells(bits, w, row, board, r * w);
+    let at = r * w;
+    write_cells(bits, row, &mut board[at..at + w]);
 }
 
-// Writes a row's cells from a place on.
-fn write_cells(bits: usize, w: usize, row: usize, board: &mut [u8], at: usize)
-    requires { at + w ≤ length board.old }
-    ensures { board.new ≡ written (row_cell bits row) board.old at w }
+// Writes a row's cells, from column 1 on.
+fn write_cells(bits: usize, row: usize, cells: &mut [u8])
+    ensures { cells.new ≡ listed (row_cell bits row) (length cells.old) }
 {
-    for k in 0..w {
-        board[at + k] = cell(bits, row, k);
+    for (k, cell) in cells.iter_mut().enumerate() {
+        *cell = cell_at(bits, row, k);
     }
 }
 
 // The cell in column k + 1 of a row, from its number.
-fn cell(bits: usize, row: usize, k: usize) -> u8
+fn cell_at(bits: usize, row: usize, k: usize) -> u8
     ensures { result ≡ row_cell bits row k }
 {
     if k < bits {

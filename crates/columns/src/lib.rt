@@ -2,7 +2,7 @@
 // next. 0 stands for no number, and the greater wins.
 #![tactic(auto)]
 
-ghost use Rattle.std.specs.Prelude.{◌≡◌, ◌+◌, ◌*◌, ◌-◌, ◌<◌, ◌≤◌, ◌^◌, ◌/◌, ◌%◌, get_or};
+ghost use Rattle.std.specs.Prelude.{◌≡◌, ℕ, ◌+◌, ◌*◌, ◌-◌, ◌<◌, ◌≤◌, ◌^◌, ◌/◌, ◌%◌, get_or};
 ghost use Rattle.std.specs.Int.Bits.{bit_and};
 ghost use Rattle.board.specs.Boards.{max_width};
 ghost use Rattle.rule.specs.Rule.{entry_of};
@@ -12,6 +12,7 @@ ghost use Rattle.column_elimination.specs.Written.{Wrote};
 ghost use Rattle.columns.specs.Calls.{eight_from, column_masks_fit, column_fits, WindowPlaces, Leaves};
 
 use board::MAX_WIDTH;
+use std::array;
 
 // A vector has eight numbers, one a lane, for each of the 2^(w+2) ways to read w + 2 cells: the first ones of row a, the others of row c.
 pub const VECTOR: usize = 32768;
@@ -25,7 +26,18 @@ pub const LAST_MASKS: usize = 128;
 pub fn top(u: u16, v: u16) -> u16
     ensures { result ≡ larger u v }
 {
-    if u < v { v } else { u }
+    u.max(v)
+}
+
+// Writes eight lanes from a place on.
+fn eight<const N: usize, F: Fn(usize) -> u16>(dst: &mut [u16; N], o: usize, lane: F)
+    requires room { o + 8 ≤ N }
+    requires can { (l : ℕ) → l < 8 → F.pre lane l }
+    ensures { (f : ℕ → ℕ) → ((l v : ℕ) → l < 8 → F.post lane l v → v ≡ f l) → Wrote o 8 f dst.old dst.new }
+{
+    for l in 0..8 {
+        dst[o + l] = lane(l);
+    }
 }
 
 // ---- one column
@@ -46,13 +58,11 @@ pub fn column(
 }
 
 // Whether j is one of the columns 0 to w - 1.
+#[tactic(auto, unfolding(crate::specs::Calls::column_fits))]
 fn column_fits(w: usize, j: usize) -> bool
     ensures { result ≡ column_fits w j }
 {
-    if MAX_WIDTH < w {
-        return false;
-    }
-    j < w
+    w <= MAX_WIDTH && j < w
 }
 
 // A half for each number that the cells of row a so far can have.
@@ -97,28 +107,18 @@ fn half(
     ensures { Wrote o (32 * n) (λ y. mix src.now masks.now (i + y) (i + 32 * n + y) (m + 8 * (y / (8 * n))) (y % 8)) dst.old dst.new }
 {
     let k = i + 32 * n;
-    part(src, i, k, masks, m, dst, o, n);
-    part(src, i + 8 * n, k + 8 * n, masks, m + 8, dst, o + 8 * n, n);
-    part(
-        src,
-        i + 16 * n,
-        k + 16 * n,
-        masks,
-        m + 16,
-        dst,
-        o + 16 * n,
-        n,
-    );
-    part(
-        src,
-        i + 24 * n,
-        k + 24 * n,
-        masks,
-        m + 24,
-        dst,
-        o + 24 * n,
-        n,
-    );
+    for r in 0..4 {
+        part(
+            src,
+            i + r * (8 * n),
+            k + r * (8 * n),
+            masks,
+            m + 8 * r,
+            dst,
+            o + r * (8 * n),
+            n,
+        );
+    }
 }
 
 // A run of n times eight lanes with the same masks.
@@ -136,26 +136,11 @@ fn part(
     ensures { Wrote o (8 * n) (λ y. mix src.now masks.now (i + y) (k + y) m (y % 8)) dst.old dst.new }
 {
     for x in 0..n {
-        lanes(src, i + 8 * x, k + 8 * x, masks, m, dst, o + 8 * x);
-    }
-}
-
-// Eight lanes: the greater of two numbers under their masks.
-fn lanes(
-    src: &[u16; VECTOR],
-    i: usize,
-    k: usize,
-    masks: &[u16; MASKS],
-    m: usize,
-    dst: &mut [u16; VECTOR],
-    o: usize,
-)
-    requires { (i + 8 ≤ 32768) × (k + 8 ≤ 32768) × (m + 40 ≤ 512) × (o + 8 ≤ 32768) }
-    ensures { Wrote o 8 (λ y. mix src.now masks.now (i + y) (k + y) m y) dst.old dst.new }
-{
-    for l in 0..8 {
-        let v = top(src[i + l] & masks[m + l], src[k + l] & masks[m + 32 + l]);
-        dst[o + l] = v;
+        let i = i + 8 * x;
+        let k = k + 8 * x;
+        eight(dst, o + 8 * x, |l| {
+            top(src[i + l] & masks[m + l], src[k + l] & masks[m + 32 + l])
+        });
     }
 }
 
@@ -164,9 +149,8 @@ fn lanes(
 pub fn keeps(next: &[u8; 512], keep: &mut [u16; 512])
     ensures { Wrote 0 512 (λ p. mask_of (pattern_kept (entry_of next.now) p)) keep.old keep.new }
 {
-    for p in 0..512 {
-        let m = mask(next[p] == (p / 16 % 2) as u8);
-        keep[p] = m;
+    for (p, kept) in keep.iter_mut().enumerate() {
+        *kept = mask(next[p] == (p / 16 % 2) as u8);
     }
 }
 
@@ -188,27 +172,19 @@ pub fn column_masks(keep: &[u16; 512], w: usize, b: usize, j: usize, masks: &mut
 }
 
 // Whether there are eight rows from b on, and a column j of 0 to w + 1.
+#[tactic(auto, unfolding(crate::specs::Calls::eight_from, crate::specs::Calls::column_masks_fit))]
 fn column_masks_fit(w: usize, b: usize, j: usize) -> bool
     ensures { result ≡ column_masks_fit w b j }
 {
-    if !eight_from(w, b) {
-        return false;
-    }
-    j <= w + 1
+    eight_from(w, b) && j <= w + 1
 }
 
-// Whether there are eight rows from b on.
+// Whether there are eight rows from b on, by a difference, since the sum can wrap.
+#[tactic(auto, unfolding(crate::specs::Calls::eight_from))]
 fn eight_from(w: usize, b: usize) -> bool
     ensures { result ≡ eight_from w b }
 {
-    if MAX_WIDTH < w {
-        return false;
-    }
-    let n = two_to(w);
-    if n < 8 {
-        return false;
-    }
-    b <= n - 8
+    w <= MAX_WIDTH && 8 <= two_to(w) && b <= two_to(w) - 8
 }
 
 // By three cells of row a and three of row c, in eight lanes.
@@ -216,34 +192,20 @@ fn masks_of(keep: &[u16; 512], w: usize, b: usize, j: usize, masks: &mut [u16; M
     requires { (w ≤ max_width) × (b + 8 ≤ 2 ^ w) × (j ≤ w + 1) }
     ensures { Wrote 0 512 (column_mask keep.now w b j) masks.old masks.new }
 {
-    let mut at = [0usize; 8];
-    windows(w, b, j, &mut at);
+    let at = windows(w, b, j);
     for t in 0..64 {
-        eight_masks(keep, &at, 64 * (t / 8) + t % 8, masks, 8 * t);
+        let p = 64 * (t / 8) + t % 8;
+        eight(masks, 8 * t, |l| keep[p + at[l]]);
     }
 }
 
 // The places of eight rows' patterns among those with the same cells above and below.
-fn windows(w: usize, b: usize, j: usize, at: &mut [usize; 8])
+fn windows(w: usize, b: usize, j: usize) -> [usize; 8]
     requires { (w ≤ max_width) × (b + 8 ≤ 2 ^ w) × (j ≤ w + 1) }
-    ensures { Wrote 0 8 (λ l. 8 * window w (b + l) j) at.old at.new }
+    ensures places { (l : ℕ) → l < 8 → get_or result l 0 ≡ 8 * window w (b + l) j }
+    ensures small { WindowPlaces result }
 {
-    for l in 0..8 {
-        let x = (4 * (b + l) >> (w + 1 - j)) % 8;
-        at[l] = 8 * x;
-    }
-}
-
-// Eight lanes of masks.
-fn eight_masks(keep: &[u16; 512], at: &[usize; 8], p: usize, masks: &mut [u16; MASKS], o: usize)
-    requires { (p + 56 < 512) × (o + 8 ≤ 512) × WindowPlaces at.now }
-    ensures { Wrote o 8 (λ l. get_or keep.now (p + get_or at.now l 0) 0) masks.old masks.new }
-{
-    for l in 0..8 {
-        let x = at[l];
-        let m = keep[p + x];
-        masks[o + l] = m;
-    }
+    array::from_fn(|l| 8 * ((4 * (b + l) >> (w + 1 - j)) % 8))
 }
 
 // The masks of the last two columns, of eight rows from b on: by the last two cells of row a and of row c. Where there are no such rows nothing is
@@ -262,40 +224,11 @@ fn last_of(keep: &[u16; 512], w: usize, b: usize, masks: &mut [u16; LAST_MASKS])
     requires { (w ≤ max_width) × (b + 8 ≤ 2 ^ w) }
     ensures { Wrote 0 128 (last_mask keep.now w b) masks.old masks.new }
 {
-    let mut at = [0usize; 8];
-    windows(w, b, w, &mut at);
-    let mut past = [0usize; 8];
-    windows(w, b, w + 1, &mut past);
+    let at = windows(w, b, w);
+    let past = windows(w, b, w + 1);
     for t in 0..16 {
-        last_eight(
-            keep,
-            &at,
-            128 * (t / 4) + 2 * (t % 4),
-            &past,
-            256 * (t / 4 % 2) + 4 * (t % 2),
-            masks,
-            8 * t,
-        );
-    }
-}
-
-// Eight lanes of the masks of the last two columns.
-fn last_eight(
-    keep: &[u16; 512],
-    at: &[usize; 8],
-    p: usize,
-    past: &[usize; 8],
-    q: usize,
-    masks: &mut [u16; LAST_MASKS],
-    o: usize,
-)
-    requires { (p + 56 < 512) × (q + 56 < 512) × (o + 8 ≤ 128) × WindowPlaces at.now × WindowPlaces past.now }
-    ensures { Wrote o 8 (λ l. bit_and (get_or keep.now (p + get_or at.now l 0) 0) (get_or keep.now (q + get_or past.now l 0) 0)) masks.old masks.new }
-{
-    for l in 0..8 {
-        let x = at[l];
-        let y = past[l];
-        let m = keep[p + x] & keep[q + y];
-        masks[o + l] = m;
+        let p = 128 * (t / 4) + 2 * (t % 4);
+        let q = 256 * (t / 4 % 2) + 4 * (t % 2);
+        eight(masks, 8 * t, |l| keep[p + at[l]] & keep[q + past[l]]);
     }
 }

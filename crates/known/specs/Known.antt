@@ -1,14 +1,13 @@
 -- Document 01, "Known boards": M1 to M10, the free 3 by 3 grid, grids with live givens, edge threes, jobs of two layers, mirror boards, predecessors of
 -- targets, a spoiled table, rows written, and texts, stated of the rules themselves.
 -- Assumes nothing.
-use Rattle.std.specs.Prelude.{◌≡◌, List, [], ◌∷◌, ℕ, ◌*◌, ◌/◌, replicate}
+use Rattle.std.specs.Prelude.{◌≡◌, List, [], ◌∷◌, ℕ, ◌*◌, ◌/◌, replicate, Ok}
 use Rattle.board.specs.Answers.{Answer, gives, refuses}
 use Rattle.rule.specs.Rule.{Allowed, conway_rule, conway}
 use Rattle.rule.specs.declared.Rule.{Rule}
 use Rattle.life.specs.Calls.{judge_rule, still, changes}
 use Rattle.writer.specs.Letters.{LF, CR, bang, dot, big_o}
 use Rattle.plaintext.specs.Reading.{read_rule, ReadsText}
-use Rattle.plaintext.specs.declared.Read.TheVariants.{Board}
 use Rattle.board.specs.Checks.{table_size}
 use Rattle.board_rows.specs.Calls.{row_writes}
 use Rattle.job.specs.Jobs.{numbers_of, start, job_says, open_rule, resume_rule}
@@ -189,11 +188,11 @@ pub record Known : Type 0 where
   -- the bytes of the form: LF, CR, !, ., O
   pub bytes : (LF ≡ 10) × (CR ≡ 13) × (bang ≡ 33) × (dot ≡ 46) × (big_o ≡ 79)
   -- O, LF, .OO, LF: the short row is filled with dead cells, and the cell past the board isn't written
-  pub short_row : ReadsText (big_o ∷ LF ∷ dot ∷ big_o ∷ big_o ∷ LF ∷ []) 0 (replicate 7 9) (1 ∷ 0 ∷ 0 ∷ 0 ∷ 1 ∷ 1 ∷ 9 ∷ []) (Board 3 2)
+  pub short_row : ReadsText (big_o ∷ LF ∷ dot ∷ big_o ∷ big_o ∷ LF ∷ []) 0 (replicate 7 9) (1 ∷ 0 ∷ 0 ∷ 0 ∷ 1 ∷ 1 ∷ 9 ∷ []) (Ok (record { width = 3; height = 2 }))
   -- O, LF, !, O, CR, O, LF, O: a line starting with ! is a comment, and a CR in it is allowed; a last line without LF counts
-  pub a_comment : ReadsText (big_o ∷ LF ∷ bang ∷ big_o ∷ CR ∷ big_o ∷ LF ∷ big_o ∷ []) 0 (replicate 2 9) (1 ∷ 1 ∷ []) (Board 1 2)
+  pub a_comment : ReadsText (big_o ∷ LF ∷ bang ∷ big_o ∷ CR ∷ big_o ∷ LF ∷ big_o ∷ []) 0 (replicate 2 9) (1 ∷ 1 ∷ []) (Ok (record { width = 1; height = 2 }))
   -- O., CR, LF, .O, CR, LF: one CR just before LF is dropped
-  pub cr_lf : ReadsText (big_o ∷ dot ∷ CR ∷ LF ∷ dot ∷ big_o ∷ CR ∷ LF ∷ []) 0 (replicate 4 9) (1 ∷ 0 ∷ 0 ∷ 1 ∷ []) (Board 2 2)
+  pub cr_lf : ReadsText (big_o ∷ dot ∷ CR ∷ LF ∷ dot ∷ big_o ∷ CR ∷ LF ∷ []) 0 (replicate 4 9) (1 ∷ 0 ∷ 0 ∷ 1 ∷ []) (Ok (record { width = 2; height = 2 }))
   -- a CR elsewhere outside a comment is refusal 8 at its place: before another CR, before a letter, at the end of the text
   pub two_crs : read_rule (big_o ∷ CR ∷ CR ∷ LF ∷ []) 0 1 ≡ refuses 8 (1 ∷ [])
   pub cr_in_a_row : read_rule (dot ∷ LF ∷ CR ∷ big_o ∷ LF ∷ []) 0 4 ≡ refuses 8 (2 ∷ [])

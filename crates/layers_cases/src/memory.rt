@@ -1,16 +1,10 @@
 // What a call is lent: leftovers in the table, givens, and the table of the 512 patterns.
 use crate::random;
 use rule::Rule;
-
-// What pseudo-random bytes are for.
-#[derive(Clone, Copy)]
-pub enum Bytes {
-    Givens,
-    Patterns,
-}
+use std::array;
 
 // An entry before any call: a number that counts, the greatest such, one that counts as none, or none.
-pub fn leftover(limit: usize, seed: usize, k: usize) -> usize {
+pub fn leftover(limit: usize, seed: usize, k: usize) -> u16 {
     let x = random::below(536870912, seed, k);
     let entry = match x % 16 {
         0..=1 => 65535,
@@ -20,61 +14,23 @@ pub fn leftover(limit: usize, seed: usize, k: usize) -> usize {
         5..=7 => x / 16 % 4,
         _ => x / 16 % 601,
     };
-    entry % 65536
+    (entry % 65536) as u16
 }
 
 // Fills a table with leftovers.
 pub fn spoil(limit: usize, seed: usize, table: &mut [u16]) {
-    for k in 0..table.len() {
-        put(table, k, leftover(limit, seed, k));
+    for (k, entry) in table.iter_mut().enumerate() {
+        *entry = leftover(limit, seed, k);
     }
 }
 
-// An entry; past the end a number that no entry is.
-pub fn at(table: &[u16], k: usize) -> usize {
-    if k < table.len() {
-        wide(table[k])
-    } else {
-        65536
-    }
-}
-
-fn wide(x: u16) -> usize {
-    x as usize
-}
-
-// A byte; past the end one that is no mark.
-pub fn byte(bytes: &[u8], k: usize) -> usize {
-    if k < bytes.len() {
-        wide_byte(bytes[k])
-    } else {
-        255
-    }
-}
-
-fn wide_byte(x: u8) -> usize {
-    x as usize
-}
-
-// Writes an entry, unless it is past the end.
-pub fn put(table: &mut [u16], k: usize, entry: usize) {
-    if k < table.len() {
-        table[k] = (entry % 65536) as u16;
-    }
-}
-
-pub fn write_bytes(bytes: &mut [u8], what: Bytes, seed: usize) {
-    for k in 0..bytes.len() {
-        let x = match what {
-            Bytes::Givens => mark(seed, k),
-            Bytes::Patterns => next_state(seed, k),
-        };
-        bytes[k] = (x % 256) as u8;
-    }
+// So many givens as any call is lent.
+pub fn givens(seed: usize) -> [u8; 704] {
+    array::from_fn(|k| mark(seed, k))
 }
 
 // A given: few or many of them by the seed, and of some bytes that are no mark.
-fn mark(seed: usize, k: usize) -> usize {
+fn mark(seed: usize, k: usize) -> u8 {
     let most = random::below(6, seed, 3000000);
     let x = random::below(1000000, seed, 3000001 + k % 1024);
     if most <= x % 8 {
@@ -83,29 +39,27 @@ fn mark(seed: usize, k: usize) -> usize {
     match x / 8 % 8 {
         0..=1 => 2,
         2..=5 => 1, // many live ones leave no row
-        _ => 3 + x / 64 % 253,
-    }
-}
-
-// What a pattern becomes by no rule: what its centre is, the more often by the seed, or any byte.
-fn next_state(seed: usize, pattern: usize) -> usize {
-    let same = random::below(17, seed, 4000000);
-    let x = random::below(1000000, seed, 4000001 + pattern % 512);
-    if x % 16 < same {
-        return pattern / 16 % 2;
-    }
-    match x / 16 % 4 {
-        0 => 0,
-        1 => 1,
-        _ => 2 + x / 64 % 254,
+        _ => (3 + x / 64 % 253) as u8,
     }
 }
 
 // A table of the 512 patterns that is no rule's.
 pub fn bytes_of(seed: usize) -> [u8; 512] {
-    let mut next = [0u8; 512];
-    write_bytes(&mut next, Bytes::Patterns, seed);
-    next
+    array::from_fn(|pattern| next_state(seed, pattern))
+}
+
+// What a pattern becomes by no rule: what its centre is, the more often by the seed, or any byte.
+fn next_state(seed: usize, pattern: usize) -> u8 {
+    let same = random::below(17, seed, 4000000);
+    let x = random::below(1000000, seed, 4000001 + pattern % 512);
+    if x % 16 < same {
+        return (pattern / 16 % 2) as u8;
+    }
+    match x / 16 % 4 {
+        0 => 0,
+        1 => 1,
+        _ => (2 + x / 64 % 254) as u8,
+    }
 }
 
 // The table of a pseudo-random rule.

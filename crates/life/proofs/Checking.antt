@@ -1,12 +1,10 @@
 -- What stepping and judging take: an allowed rule and a board.
 -- Assumes nothing.
-use mathlib.Core.Path.{◌≡◌, sym}
+use mathlib.Core.Path.{◌≡◌}
 use mathlib.Core.Bool.{false}
 use mathlib.Core.List.{List}
 use Prim.Native.Nat.{ℕ}
-use Rattle.std.specs.Prelude.{Result, Ok, Err, IfOk}
-use Rattle.board.specs.Answers.{gives, passed, check_says}
-use Rattle.board.specs.declared.Refusal.{Refusal}
+use Rattle.board.specs.Answers.{gives, passed}
 use Rattle.board.specs.Boards.{Board}
 use Rattle.board.specs.Checks.{cells_check}
 use Rattle.board.proofs.Answers.{then_gives}
@@ -24,11 +22,6 @@ module _ (rule : Rule) where
       let p = then_gives (grid_check false rule w h) (cells_check w h cells) e in
       let g = grid_allowed rule false w h p.0.1 in
       (g.1, record { size = by_size g.0; bytes = cells_of w h cells p.1 })
-
-  -- so what the checks pass is a board
-  pub taken_board : (w h : ℕ) (cells : List ℕ) (k : Result Unit Refusal) → check_says k ≡ life_check rule w h cells → IfOk k (λ u. Board w h cells)
-  taken_board w h cells (Ok u) e = (taken w h cells (sym e)).1
-  taken_board w h cells (Err r) e = tt
 
   pub taken_passes : {w h : ℕ} {cells : List ℕ} → Allowed rule → Board w h cells → life_check rule w h cells ≡ passed
   unfolding life_check

@@ -6,10 +6,11 @@ use rule::Rule;
 
 mod plane;
 
-ghost use Rattle.std.specs.Prelude.{◌≡◌, IfOk, length};
-ghost use Rattle.board.specs.Answers.{check_says};
-ghost use Rattle.board.specs.Boards.{Board};
+ghost use Rattle.std.specs.Prelude.{◌≡◌, [], IfOk, length};
+ghost use Rattle.board.specs.Answers.{says, check_says};
 ghost use Rattle.life.specs.Calls.{verdict_says, life_check, judge_rule, step_rule, step_writes};
+
+use plane::Plane;
 
 // A cell that changes, by its row and column, which count the ring.
 #[derive(Clone, Copy, Debug, PartialEq, Eq)]
@@ -25,12 +26,11 @@ pub fn step(rule: Rule, w: usize, h: usize, cells: &[u8], ring: &mut [u8]) -> Re
     ensures { (check_says result ≡ step_rule rule w h cells.now (length ring.old)) ×
         (ring.new ≡ step_writes rule w h cells.now ring.old) }
 {
-    check_life(rule, w, h, cells)?;
+    let plane = on_plane(rule, w, h, cells)?;
     if ring.len() != (w + 2) * (h + 2) {
         return Err(Refusal::ShortOutput);
     }
-    let next = rule::table::of(rule);
-    plane::write_step(&next, w, h, cells, ring);
+    plane.write_step(&rule::table::of(rule), ring);
     Ok(())
 }
 
@@ -40,17 +40,21 @@ pub fn step(rule: Rule, w: usize, h: usize, cells: &[u8], ring: &mut [u8]) -> Re
 pub fn judge(rule: Rule, w: usize, h: usize, cells: &[u8]) -> Result<Option<Change>, Refusal>
     ensures { verdict_says result ≡ judge_rule rule w h cells.now }
 {
-    check_life(rule, w, h, cells)?;
-    let next = rule::table::of(rule);
-    Ok(plane::first_change(&next, w, h, cells))
+    let plane = on_plane(rule, w, h, cells)?;
+    Ok(plane.first_change(&rule::table::of(rule)))
 }
 
-// 1, 2, 13, 5, 11: the size, the rule, then the cells.
+// The board on the plane. Refusals 1, 2, 13, 5, 11: the size, the rule, then the cells.
 #[tactic(auto, unfolding(crate::specs::Calls::life_check))]
-fn check_life(rule: Rule, w: usize, h: usize, cells: &[u8]) -> Result<(), Refusal>
-    ensures says { check_says result ≡ life_check rule w h cells.now }
-    ensures board { IfOk result (λ u. Board w h cells.now) }
+fn on_plane<'a>(rule: Rule, w: usize, h: usize, cells: &'a [u8]) -> Result<Plane<'a>, Refusal>
+    ensures says { says (λ plane. []) result ≡ life_check rule w h cells.now }
+    ensures board { IfOk result (λ plane. (plane.width ≡ w) × (plane.height ≡ h) × (plane.cells.now ≡ cells.now)) }
 {
     rule::check(false, rule, w, h)?;
-    board::check_cells(w, h, cells)
+    board::check_cells(w, h, cells)?;
+    Ok(Plane {
+        width: w,
+        height: h,
+        cells,
+    })
 }

@@ -5,81 +5,79 @@ ghost use Rattle.std.proofs.Math.IntN.{pred_ℤ};
 ghost use Rattle.board.specs.Boards.{Board};
 ghost use Rattle.rule.specs.Rule.{entry_of};
 ghost use Rattle.life.specs.Plane.{on_plane, three, around};
-ghost use Rattle.life.specs.Calls.{change_says, judged, stepped, ring_size};
+ghost use Rattle.life.specs.Calls.{change_says, judged, keeps_at, stepped, ring_size};
 
 use crate::Change;
 
-// The cell in row i - 1 and column j - 1.
-fn cell(w: usize, h: usize, cells: &[u8], i: usize, j: usize) -> u8
-    requires { Board w h cells.now }
-    ensures { (result ≡ on_plane w h cells.now (pred_ℤ (pos i)) (pred_ℤ (pos j))) × (result ≤ 1) }
-{
-    if i < 2 {
-        return 0;
-    }
-    if h + 1 < i {
-        return 0;
-    }
-    if j < 2 {
-        return 0;
-    }
-    if w + 1 < j {
-        return 0;
-    }
-    cells[(i - 2) * w + (j - 2)]
+// A board on the plane.
+#[derive(Clone, Copy)]
+pub struct Plane<'a> {
+    pub width: usize,
+    pub height: usize,
+    pub cells: &'a [u8],
+    ghost board: { Board width height cells.now },
 }
 
-// The cells in columns c - 1, c and c + 1 of row i - 1, as three digits.
-fn three_at(w: usize, h: usize, cells: &[u8], i: usize, c: usize) -> usize
-    requires { Board w h cells.now × (c ≤ w + 1) }
-    ensures { (result ≡ three (on_plane w h cells.now (pred_ℤ (pos i))) (pos c)) × (result < 8) }
-{
-    4 * wide(cell(w, h, cells, i, c))
-        + 2 * wide(cell(w, h, cells, i, c + 1))
-        + wide(cell(w, h, cells, i, c + 2))
-}
+impl Plane<'_> {
+    // The cell in row i - 1 and column j - 1.
+    fn cell(&self, i: usize, j: usize) -> u8
+        ensures { (result ≡ on_plane self.now.width self.now.height self.now.cells.now (pred_ℤ (pos i)) (pred_ℤ (pos j))) × (result ≤ 1) }
+    {
+        if i == 0 || j == 0 {
+            return 0;
+        }
+        board::byte_at(self.cells, self.width, self.height, i - 1, j - 1)
+    }
 
-// The 3 by 3 pattern around the cell in row r and column c.
-fn pattern(w: usize, h: usize, cells: &[u8], r: usize, c: usize) -> usize
-    requires { Board w h cells.now × (r ≤ h + 1) × (c ≤ w + 1) }
-    ensures { (result ≡ around (on_plane w h cells.now) (pos r) (pos c)) × (result < 512) }
-{
-    64 * three_at(w, h, cells, r, c)
-        + 8 * three_at(w, h, cells, r + 1, c)
-        + three_at(w, h, cells, r + 2, c)
-}
+    // The cells in columns c - 1, c and c + 1 of row i - 1, as three digits.
+    fn three_at(&self, i: usize, c: usize) -> usize
+        requires { c ≤ self.now.width + 1 }
+        ensures { (result ≡ three (on_plane self.now.width self.now.height self.now.cells.now (pred_ℤ (pos i))) (pos c)) × (result < 8) }
+    {
+        4 * usize::from(self.cell(i, c))
+            + 2 * usize::from(self.cell(i, c + 1))
+            + usize::from(self.cell(i, c + 2))
+    }
 
-// The first cell that changes, over the ring and the inside.
-pub fn first_change(next: &[u8; 512], w: usize, h: usize, cells: &[u8]) -> Option<Change>
-    requires { Board w h cells.now }
-    ensures { change_says result ≡ judged (entry_of next.now) w h cells.now }
-{
-    let n = (w + 2) * (h + 2);
-    for k in 0..n {
-        let r = k / (w + 2);
-        let c = k % (w + 2);
-        let p = pattern(w, h, cells, r, c);
-        if next[p] != cell(w, h, cells, r + 1, c + 1) {
-            return Some(Change { row: r, column: c });
+    // The 3 by 3 pattern around the cell in row r and column c.
+    fn pattern(&self, r: usize, c: usize) -> usize
+        requires row { r ≤ self.now.height + 1 }
+        requires column { c ≤ self.now.width + 1 }
+        ensures { (result ≡ around (on_plane self.now.width self.now.height self.now.cells.now) (pos r) (pos c)) × (result < 512) }
+    {
+        64 * self.three_at(r, c) + 8 * self.three_at(r + 1, c) + self.three_at(r + 2, c)
+    }
+
+    // The first cell that changes, over the ring and the inside.
+    pub fn first_change(&self, next: &[u8; 512]) -> Option<Change>
+        ensures { change_says result ≡ judged (entry_of next.now) self.now.width self.now.height self.now.cells.now }
+    {
+        let columns = self.width + 2;
+        let place = (0..columns * (self.height + 2)).find(|place| !self.keeps(next, *place))?;
+        Some(Change {
+            row: place / columns,
+            column: place % columns,
+        })
+    }
+
+    // Whether the cell at a place keeps its state.
+    fn keeps(&self, next: &[u8; 512], place: usize) -> bool
+        requires { place < ring_size self.now.width self.now.height }
+        ensures { result ≡ keeps_at (entry_of next.now) self.now.width self.now.height self.now.cells.now place }
+    {
+        let row = place / (self.width + 2);
+        let column = place % (self.width + 2);
+        next[self.pattern(row, column)] == self.cell(row + 1, column + 1)
+    }
+
+    // The next pattern, ring included, into a buffer of its length.
+    pub fn write_step(&self, next: &[u8; 512], ring: &mut [u8])
+        requires { length ring.old ≡ ring_size self.now.width self.now.height }
+        ensures { ring.new ≡ stepped (entry_of next.now) self.now.width self.now.height self.now.cells.now }
+    {
+        let columns = self.width + 2;
+        for (k, state) in ring.iter_mut().enumerate() {
+            *state = next[self.pattern(k / columns, k % columns)];
         }
     }
-    None
-}
-
-// The next pattern, ring included, into a buffer of its length.
-pub fn write_step(next: &[u8; 512], w: usize, h: usize, cells: &[u8], ring: &mut [u8])
-    requires board { Board w h cells.now }
-    requires ring { length ring.old ≡ ring_size w h }
-    ensures { ring.new ≡ stepped (entry_of next.now) w h cells.now }
-{
-    for k in 0..ring.len() {
-        let p = pattern(w, h, cells, k / (w + 2), k % (w + 2));
-        ring[k] = next[p];
-    }
-}
-
-fn wide(x: u8) -> usize
-    ensures { result ≡ x }
-{
-    x as usize
 }

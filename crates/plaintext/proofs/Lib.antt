@@ -1,5 +1,4 @@
 -- The laws of this crate that belong to no one function, and the proofs of its theorems.
-pub mod Stops
 pub mod RowCells
 pub mod Lines
 pub mod Scans

@@ -4,7 +4,7 @@
 use mathlib.Core.Path.{◌≡◌, refl, sym, ap, ◌∙◌}
 use mathlib.Core.Bool.{Bool, true, false, cond}
 use mathlib.Core.Logic.{⊎_elim}
-use Rattle.std.specs.Prelude.{Option, None, Some}
+use Rattle.std.specs.Prelude.{Option, None, Some, Ok}
 use mathlib.Core.List.{List, [], ◌∷◌, ◌++◌, Memᴰ}
 use Prim.Native.Nat.{ℕ, zero, suc, ◌+◌, ◌*◌, ◌<◌}
 use native.Mathlib.Nat.{not-suc-le-zero, le_of_suc-le-suc}
@@ -22,10 +22,9 @@ use Rattle.board.proofs.Checks.{board_passes}
 use Rattle.writer.specs.Letters.{LF, is_letter}
 use Rattle.plaintext.specs.Lines.{Line, lines_of}
 use Rattle.plaintext.specs.Reading.{Judged, comment, row, bad, is_comment, without_cr, letter_at, judge_row, judge, judge_lines, judged, first_bad, rows_of, width_of, cells_of, size_rule, read_rule, board_over, ReadsText}
-use Rattle.plaintext.specs.declared.Read.TheVariants.{Board}
 use Rattle.plaintext.specs.Theorems.{joined, WellCut, ReadsABoard, BadByte}
 use Rattle.plaintext.proofs.RowCells.{cells_long}
-use Rattle.plaintext.proofs.Lines.{zero_ne_one, row_first}
+use Rattle.plaintext.proofs.Lines.{row_first}
 use Rattle.plaintext.proofs.Answers.{checked_size}
 use Rattle.plaintext.proofs.Cells.{all_at, text_all, cells_all}
 use Rattle.plaintext.proofs.Cutting.{cut_into_lines}
@@ -48,7 +47,7 @@ sizes rows room w h e =
     record { wide = x; high = y; size = rw (x, y) at (checked_size (width_of rows) (length rows) p.0.1 q.0.1) }
 
 -- and the cells that were written
-module _ (bytes : List ℕ) (at : ℕ) (cells cells' : List ℕ) (w h : ℕ) (c : ReadsText bytes at cells cells' (Board w h)) where
+module _ (bytes : List ℕ) (at : ℕ) (cells cells' : List ℕ) (w h : ℕ) (c : ReadsText bytes at cells cells' (Ok (record { width = w; height = h }))) where
   abbrev rows : List (List ℕ)
   rows = rows_of (judged bytes at)
 
@@ -102,8 +101,8 @@ bad_here at p l rest clean e = go (is_comment l.bytes) (first_not (letter_at (wi
   where
     go : (t : Bool) (o : Option ℕ) → Searched (letter_at (without_cr l)) (length (without_cr l)) o → cond t comment (judge_row at (without_cr l) o) ≡ bad p
         → (k : ℕ) × (p ≡ at + k) × NotAllowed (l.bytes ++ rest) k
-    go true o s e = let z : ◌≡◌ {A = ℕ} 0 1 = cc in absurd (zero_ne_one z)
-    go false None s e = let z : ◌≡◌ {A = ℕ} 0 1 = cc in absurd (zero_ne_one z)
+    go true o s e = absurd (cc)
+    go false None s e = absurd (cc)
     go false (Some k) (fails_at _ h f _) e =
         let r = row_first l in
         let same : get_or (without_cr l) k 0 ≡ get_or l.bytes k 0 = rw r.0 at (get_or-take (length (without_cr l)) l.bytes k 0 h) in
@@ -140,13 +139,12 @@ bad_later at p l ls c e i =
     ))
     (λ (last : (0 < length l.bytes) × (ls ≡ [])).
     let none_left : None ≡ Some p = rw last.1 at e in
-    let z : ◌≡◌ {A = ℕ} 0 1 = cc in
-    absurd (zero_ne_one z))
+    absurd (cc none_left))
     c.1
 
 bad_in : (ls : List Line) → WellCut ls → (at p : ℕ) → first_bad (judge_lines at ls) ≡ Some p → (k : ℕ) × (p ≡ at + k) × NotAllowed (joined ls) k
 unfolding judge_lines first_bad joined
-bad_in [] c at p e = let z : ◌≡◌ {A = ℕ} 0 1 = cc in absurd (zero_ne_one z)
+bad_in [] c at p e = absurd (cc)
 bad_in (l ∷ ls) c at p e = go l ls c at p (judge at l) refl e (bad_in ls c.2 (at + length l.bytes + 1) p)
   where
     go : (l : Line) (ls : List Line) → WellCut (l ∷ ls) → (at p : ℕ) (j : Judged) → judge at l ≡ j → first_bad (j ∷ judge_lines (at + length l.bytes + 1) ls) ≡ Some p
@@ -162,10 +160,10 @@ unfolding size_rule
 letter_only None rows room p e = absurd (go (among max_height (length rows)) (among max_width (width_of rows)) (leb (width_of rows * length rows) room) (width_of rows ∷ length rows ∷ []) e)
   where
     go : (s t u : Bool) (vs : List ℕ) → refuses 8 (p ∷ []) ≡ (refuse_unless s 2 then refuse_unless t 1 then refuse_unless u 5 then gives vs) → ⊥
-    go true true true vs e = let z : ◌≡◌ {A = ℕ} 0 1 = cc in zero_ne_one z
-    go true true false vs e = let z : ◌≡◌ {A = ℕ} 8 5 = cc in omega arith
-    go true false u vs e = let z : ◌≡◌ {A = ℕ} 8 1 = cc in omega arith
-    go false t u vs e = let z : ◌≡◌ {A = ℕ} 8 2 = cc in omega arith
+    go true true true vs e = cc
+    go true true false vs e = cc
+    go true false u vs e = cc
+    go false t u vs e = cc
 letter_only (Some q) rows room p e = cc
 
 pub bad_byte : BadByte

@@ -2,7 +2,7 @@
 -- Assumes nothing.
 use mathlib.Core.Path.{◌≡◌, refl, sym, ap, ap₂, ◌∙◌}
 use mathlib.Core.Bool.{Bool, true, false, cond}
-use Rattle.std.specs.Prelude.{None}
+use Rattle.std.specs.Prelude.{None, Result, Ok, Err}
 use mathlib.Core.List.{List, [], ◌∷◌, ◌++◌, map, flat_map, append-nil}
 use Prim.Native.Nat.{ℕ, zero, suc, ◌+◌, ◌*◌, ◌-◌, ◌<◌, ◌≤◌}
 use native.Mathlib.Nat.{not-suc-le-zero, le_of_suc-le-suc, zero-lt-suc, mul-zero}
@@ -11,17 +11,17 @@ use borrow.Author.Tests.{le-leb}
 use lib.Dec.{eqb, leb}
 use lib.ListN.{length, get_or, take, drop, replicate, take-append-drop}
 use lib.Seq.{take_at, drop-append_seam, length-take-le}
+use Rattle.board.specs.declared.Refusal.{Refusal}
 use Rattle.board.specs.Answers.{gives, passed, refuse_unless}
 use Rattle.board.specs.Boards.{Board}
 use Rattle.board.specs.Checks.{width_check, height_check, size_check, board_check}
 use Rattle.board.proofs.Search.{none_of}
 use Rattle.board.proofs.Answers.{refuses_none, then_gives}
 use Rattle.board.proofs.Checks.{size_passes, boarded}
-use Rattle.writer.specs.declared.Written as O
 use Rattle.writer.specs.Letters.{CR, bang, dot, big_o, is_letter, letter_cell, letter_of}
 use Rattle.writer.specs.Writing.{board_rows, row_text, board_text, text_length, write_rule, text_over, WritesText}
 use Rattle.writer.proofs.BoardRows.{rest_long, board_text_long}
-use Rattle.plaintext.specs.declared.Read as I
+use Rattle.plaintext.specs.declared.Size.{Size}
 use Rattle.plaintext.specs.Lines.{Line, lines_of}
 use Rattle.plaintext.specs.Reading.{Judged, row, is_comment, letter_at, judge, judge_lines, judged, first_bad, rows_of, width_of, filled, cells_of, size_rule, read_rule, board_over, read_says}
 use Rattle.plaintext.specs.Theorems.{AcceptedAsItIs, RoundTrip}
@@ -126,7 +126,7 @@ module _ (w : ℕ) where
   board_cells (suc h) b e = let s = rest_long w h b e in rw (whole_row_lem b s.0, board_cells h (drop w b) s.1) (take-append-drop w b)
 
 -- ---- a board that text out took, and what it wrote
-module _ (w h : ℕ) (board text text' : List ℕ) (n : ℕ) (c : WritesText w h board text text' (O.Written.Length n)) where
+module _ (w h : ℕ) (board text text' : List ℕ) (n : ℕ) (c : WritesText w h board text text' (Ok n)) where
   taken : Board w h board
   unfolding write_rule
   taken = boarded w h board (then_gives (board_check w h board) _ (sym c.answers)).0.1
@@ -154,9 +154,9 @@ pub accepted_as_it_is : AcceptedAsItIs
 accepted_as_it_is w h board text text' n c front = (lines w h board text text' n c front, whole_rows w h board (taken w h board text text' n c).bytes.long)
 
 -- an answer that gives a size is that of a board
-gave_size : (r : I.Read) (w h : ℕ) → read_says r ≡ gives (w ∷ h ∷ []) → r ≡ I.Read.Board w h
-gave_size (I.Read.Board w' h') w h e = let x : w' ≡ w = cc in let y : h' ≡ h = cc in rw (x, y)
-gave_size (I.Read.Refused r) w h e = absurd (refuses_none e)
+gave_size : (r : Result Size Refusal) (w h : ℕ) → read_says r ≡ gives (w ∷ h ∷ []) → r ≡ Ok (record { width = w; height = h })
+gave_size (Ok size) w h e = let x : size.width ≡ w = cc in let y : size.height ≡ h = cc in rw (← x, ← y)
+gave_size (Err r) w h e = absurd (refuses_none e)
 
 pub round_trip : RoundTrip
 unfolding read_rule size_rule board_over size_check

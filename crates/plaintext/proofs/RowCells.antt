@@ -1,13 +1,14 @@
 -- Laws of the cells of rows filled to a width: of one row, and of many.
 -- Assumes nothing.
 use mathlib.Core.Path.{◌≡◌, refl, sym, ◌∙◌}
-use mathlib.Core.List.{List, [], ◌∷◌, ◌++◌, map, flat_map}
-use Prim.Native.Nat.{ℕ, ◌+◌, ◌*◌, ◌-◌, ◌<◌, ◌≤◌}
+use mathlib.Core.List.{List, [], ◌∷◌, ◌++◌, flat_map, append_assoc}
+use Prim.Native.Nat.{ℕ, ◌+◌, ◌*◌, ◌-◌, ◌≤◌}
 use native.Mathlib.Nat.{mul-suc, mul-zero}
 use native.Mathlib.Omega.{arith}
-use lib.ListN.{length, get_or, replicate, length-append, length-map, length-replicate, get_or-replicate, get_or-append, get_or-map}
-use lib.Seq.{get_or-append-add}
-use Rattle.writer.specs.Letters.{letter_cell}
+use borrow.Rule.Slice.PartMut.{put_mid}
+use lib.ListN.{length, take, drop, replicate, length-append, length-drop, length-replicate}
+use lib.Seq.{drop-drop, take_at, drop_at, length-take-le}
+use Rattle.writer.proofs.Over.{over, over_all}
 use Rattle.plaintext.specs.Reading.{filled, width_of, cells_of}
 
 -- ---- a row's cells
@@ -15,25 +16,16 @@ pub filled_long : (w : ℕ) (r : List ℕ) → length r ≤ w → length (filled
 unfolding filled
 filled_long w r h = rw (length-append, length-replicate {A = ℕ} (w - length r) 0) (omega arith)
 
--- of a row of letters
-pub filled_letters_long : (w : ℕ) (r : List ℕ) → length r ≤ w → length (filled w (map letter_cell r)) ≡ w
-filled_letters_long w r h = filled_long w (map letter_cell r) (rw (length-map r letter_cell) h)
-
-pub filled_cell : (w : ℕ) (r : List ℕ) (k : ℕ) → k < length r → get_or (filled w (map letter_cell r)) k 0 ≡ letter_cell (get_or r k 0)
+-- a row of n cells written over others, and then dead cells up to the width
+pub filled_over : (w n : ℕ) (r old cells part : List ℕ) → length r ≡ n → n ≤ w → w ≤ length old → cells ≡ over r n old
+    → part ≡ replicate (length (take (w - n) (drop n cells))) 0 → put_mid n (w - n) cells part ≡ filled w r ++ drop w old
 unfolding filled
-filled_cell w r k h =
-    let g : k < length (map letter_cell r) = rw (length-map r letter_cell) h in
-    rw (get_or-append (map letter_cell r) (replicate (w - length (map letter_cell r)) 0) 0 k g) (get_or-map letter_cell r k 0)
-
-pub filled_dead : (w : ℕ) (r : List ℕ) (k : ℕ) → length r ≤ k → k < w → get_or (filled w (map letter_cell r)) k 0 ≡ 0
-unfolding filled
-filled_dead w r k l h =
-    let m = map letter_cell r in
-    let e : length m ≡ length r = length-map r letter_cell in
-    let q : k ≡ length m + (k - length m) = omega arith in
-    let g : get_or (m ++ replicate (w - length m) 0) (length m + (k - length m)) 0 ≡ 0
-    = get_or-append-add m (replicate (w - length m) 0) (k - length m) 0 ∙ get_or-replicate (w - length m) (k - length m) 0 0 (omega arith)
-    in rw (← q) at g
+filled_over w n r old cells part e l m c p =
+    let q : cells ≡ r ++ drop n old = c ∙ over_all r old n (omega arith) in
+    let back : drop n cells ≡ drop n old = rw q (drop_at r (drop n old) n e) in
+    let long : length (take (w - n) (drop n old)) ≡ w - n = length-take-le (w - n) (drop n old) (rw (length-drop n old) (omega arith)) in
+    let whole : n + (w - n) ≡ w = omega arith in
+    rw (p, back, long, q, take_at r (drop n old) n e, drop-drop (w - n) n old, whole, e) (sym (append_assoc r (replicate (w - n) 0) (drop w old)))
 
 -- ---- many rows
 -- the cells of rows that are no longer than w

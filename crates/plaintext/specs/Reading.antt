@@ -1,14 +1,14 @@
 -- Document 01, "Plaintext boards and the program": what a text reads as. It is cut into lines, each line is judged, and the rows give
 -- width, height and cells.
 -- Assumes nothing.
-use Rattle.std.specs.Prelude.{◌≡◌, Bool, cond, ◌&&◌, ℕ, ◌+◌, ◌*◌, ◌-◌, max, eqb, leb, length, get_or, take, drop, replicate, Option, None, Some}
+use Rattle.std.specs.Prelude.{◌≡◌, Bool, cond, ◌&&◌, ℕ, ◌+◌, ◌*◌, ◌-◌, max, eqb, leb, length, get_or, take, drop, replicate, Option, None, Some, Result}
 use mathlib.Core.List.{List, [], ◌∷◌, ◌++◌, map, flat_map}
+use Rattle.board.specs.declared.Refusal.{Refusal}
 use Rattle.board.specs.Search.{first_not}
-use Rattle.board.specs.Answers.{Answer, gives, refusal_says, ◌then◌, refuse_unless, refuse_at, after}
+use Rattle.board.specs.Answers.{Answer, gives, says, ◌then◌, refuse_unless, refuse_at, after}
 use Rattle.board.specs.Checks.{width_check, height_check}
 use Rattle.writer.specs.Letters.{CR, bang, is_letter, letter_cell}
-use Rattle.plaintext.specs.declared.Read.{Read}
-use Rattle.plaintext.specs.declared.Read.TheVariants.{Board, Refused}
+use Rattle.plaintext.specs.declared.Size.{Size}
 use Rattle.plaintext.specs.Lines.{Line, lines_of}
 
 -- ---- a line is judged

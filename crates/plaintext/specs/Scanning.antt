@@ -1,38 +1,35 @@
 -- Document 01, "Plaintext boards and the program", for the inner functions: what they answer while they go through a text line by line, in
 -- the terms of `Lines` and `Reading`.
 -- Assumes nothing.
-use Rattle.std.specs.Prelude.{◌≡◌, Bool, not, List, ◌∷◌, ℕ, ◌+◌, ◌-◌, ◌≤◌, eqb, ltb, length, get_or, take, drop, Option, None, Some, unwrap_or, Result, Ok, Err}
-use Rattle.board.specs.Search.{first_not}
-use Rattle.writer.specs.Letters.{LF}
+use Rattle.std.specs.Prelude.{◌≡◌, ℕ, length, Option, None, Some, Result, Ok, Err}
+use Rattle.std.specs.Borrow.{Bor}
+use mathlib.Core.List.{List, map}
 use Rattle.board.specs.declared.Refusal.{Refusal}
 use Rattle.board.specs.declared.Refusal.TheVariants.{Letter}
+use Rattle.writer.specs.Letters.{letter_cell}
 use Rattle.plaintext.specs.declared.Size.{Size}
-use Rattle.plaintext.specs.Lines.{Line, lines_of}
-use Rattle.plaintext.specs.Reading.{Judged, comment, row, bad, width_of}
+use Rattle.plaintext.specs.declared.line.Line as held
+use Rattle.plaintext.specs.declared.line.Lines as left
+use Rattle.plaintext.specs.Lines.{Line}
+use Rattle.plaintext.specs.Reading.{Judged, comment, row, bad, judge, judged, width_of}
 
--- the first number below n that fails the test, or n where none does
-abbrev pub first_not_or : (ℕ → Bool) → ℕ → ℕ
-first_not_or f n = unwrap_or (first_not f n) n
+-- a line that the code holds
+abbrev pub line_of : held.Line → Line
+line_of l = record { bytes = l.bytes.now; ended = l.ended }
 
--- the byte at a place is no LF
-abbrev pub no_lf_at : List ℕ → ℕ → Bool
-no_lf_at bytes place = not (eqb (get_or bytes place 0) LF)
+-- the same, judged
+abbrev pub judged_line : held.Line → Judged
+judged_line l = judge l.from (line_of l)
 
--- the line of a text from a place to another
-abbrev pub line_between : List ℕ → ℕ → ℕ → Line
-line_between text from end = record { bytes = take (end - from) (drop from text); ended = ltb end (length text) }
+-- the lines that are left, judged
+abbrev pub judged_left : left.Lines → List Judged
+judged_left s = judged s.text.now s.at
 
--- the line that starts at a place ends at another: there stands its LF, or the text ends
-pub record EndsAt (text : List ℕ) (from end : ℕ) : Type 0 where
-  pub forward : from ≤ end
-  pub inside : end ≤ length text
-  pub first : lines_of (drop from text) ≡ line_between text from end ∷ lines_of (drop (end + 1) text)
-
--- a judged line, a row by its length alone
-abbrev pub letters_in : Judged → Result (Option ℕ) Refusal
-letters_in comment = Ok None
-letters_in (row cells) = Ok (Some (length cells))
-letters_in (bad place) = Err (Letter place)
+-- the answer for a judged line: nothing for a comment, a row's letters, or the first byte that isn't allowed
+abbrev pub Told : Result (Option (Bor (List ℕ))) Refusal → Judged → Type 0
+Told (Ok None) line = line ≡ comment
+Told (Ok (Some letters)) line = line ≡ row (map letter_cell letters.now)
+Told (Err refusal) line = (place : ℕ) × (refusal ≡ Letter place) × (line ≡ bad place)
 
 -- the place of the first byte that isn't allowed, or else the rows' width and height
 abbrev pub measure_of : Option ℕ → List (List ℕ) → Result Size Refusal

@@ -1,79 +1,115 @@
-// One line of a text: where it ends, and what it is.
-ghost use Rattle.std.specs.Prelude.{◌≡◌, ◌<◌, ◌≤◌, length};
-ghost use Rattle.writer.specs.Letters.{is_letter};
-ghost use Rattle.plaintext.specs.Reading.{is_comment, without_cr, letter_at, judge};
-ghost use Rattle.plaintext.specs.Scanning.{first_not_or, no_lf_at, line_between, EndsAt, letters_in};
+// The lines of a text, one after the other, and what each is.
+ghost use Rattle.std.specs.Prelude.{◌≡◌, ◌+◌, ◌<◌, ◌^◌, ◌==◌, not, length, position};
+ghost use Rattle.writer.specs.Letters.{LF, is_letter};
+ghost use Rattle.plaintext.specs.Reading.{is_comment, without_cr, judged};
 
 use board::Refusal;
 
-// Where the line that starts at a place ends: at its LF, or at the end of the text.
-pub fn line_end(text: &[u8], from: usize) -> usize
-    requires { from < length text.now }
-    ensures { EndsAt text.now from result }
-{
-    from + line_length(&text[from..])
+// A line of a text: its place, its bytes without LF, and whether an LF ends it.
+#[derive(Clone, Copy)]
+pub struct Line<'a> {
+    pub from: usize,
+    pub bytes: &'a [u8],
+    pub ended: bool,
+    // So that the place of a byte in it fits.
+    pub ghost fits: { from + length bytes.now < 2 ^ 64 },
 }
 
-// The letters of the row that the line from a place to its end is; none where it is a comment. Refusal 8, with the place of the first byte that isn't
-// allowed.
-pub fn row_letters(text: &[u8], from: usize, end: usize) -> Result<Option<usize>, Refusal>
-    requires { (from ≤ end) × (end ≤ length text.now) }
-    ensures { result ≡ letters_in (judge from (line_between text.now from end)) }
-{
-    let line = &text[from..end];
-    if is_comment(line) {
-        return Ok(None);
+impl<'a> Line<'a> {
+    ghost use Rattle.plaintext.specs.Scanning.{line_of, judged_line, Told};
+
+    // The letters of the row that the line is; none where it is a comment. Refusal 8, with the place of the first byte that isn't allowed.
+    #[tactic(auto, unfolding(crate::specs::Reading::judge), using(crate::proofs::Lines::first_other_is))]
+    pub fn row(self) -> Result<Option<&'a [u8]>, Refusal>
+        ensures { Told result (judged_line self.entry) }
+    {
+        if self.is_comment() {
+            return Ok(None);
+        }
+        let row = self.without_cr();
+        match first_other(row) {
+            Some(place) => Err(Refusal::Letter(self.from + place)),
+            None => Ok(Some(row)),
+        }
     }
-    let n = row_length(line, end < text.len());
-    let letters = count_letters(&line[..n]);
-    if letters < n {
-        return Err(Refusal::Letter(from + letters));
+
+    fn is_comment(self) -> bool
+        ensures { result ≡ is_comment self.entry.bytes.now }
+    {
+        matches!(self.bytes, [b'!', ..])
     }
-    Ok(Some(n))
+
+    // The bytes of the row: one CR just before LF is dropped.
+    fn without_cr(self) -> &'a [u8]
+        ensures { result.now ≡ without_cr (line_of self.entry) }
+    {
+        match self.bytes {
+            [row @ .., b'\r'] if self.ended => row,
+            row => row,
+        }
+    }
 }
 
-// The length of the first line, without its LF.
-fn line_length(text: &[u8]) -> usize
-    ensures { result ≡ first_not_or (no_lf_at text.now) (length text.now) }
-{
-    text.iter().position(|byte| *byte == b'\n').unwrap_or(text.len())
+// The lines of a text from a place on.
+#[derive(Drop)]
+pub struct Lines<'a> {
+    pub text: &'a [u8],
+    pub at: usize,
 }
 
-fn is_comment(line: &[u8]) -> bool
-    ensures { result ≡ is_comment line.now }
-{
-    if line.len() == 0 {
-        return false;
+impl<'a> Lines<'a> {
+    ghost use Rattle.plaintext.specs.Scanning.{judged_left};
+
+    pub fn new(text: &'a [u8], at: usize) -> Lines<'a>
+        ensures { judged_left result ≡ judged text.now at }
+    {
+        Lines { text, at }
     }
-    line[0] == b'!'
 }
 
-// The length of a line's row: one CR just before LF is dropped.
-fn row_length(line: &[u8], ended: bool) -> usize
-    ensures { result ≡ length (without_cr (record { bytes = line.now; ended = ended })) }
-{
-    let n = line.len();
-    if !ended {
-        return n;
+impl<'a> Iterator for Lines<'a> {
+    ghost use Rattle.std.specs.Iterator.{YieldsFirstBy, item_count};
+    ghost use Rattle.plaintext.specs.Scanning.{judged_line, judged_left};
+
+    type Item = Line<'a>;
+
+    ghost next_gives = { YieldsFirstBy judged_line judged_left };
+
+    ghost remaining = { item_count judged_left };
+
+    fn next(&mut self) -> Option<Line<'a>> {
+        let text = self.text;
+        let from = self.at;
+        if text.len() <= from {
+            return None;
+        }
+        let rest = &text[from..];
+        let length = first_lf(rest).unwrap_or(rest.len());
+        self.at = from + length + 1;
+        Some(Line {
+            from,
+            bytes: &rest[..length],
+            ended: length < rest.len(),
+        })
     }
-    if n == 0 {
-        return n;
-    }
-    if line[n - 1] == b'\r' { n - 1 } else { n }
 }
 
-// How many letters stand before the first byte that is none.
-fn count_letters(row: &[u8]) -> usize
-    ensures { result ≡ first_not_or (letter_at row.now) (length row.now) }
+// The place of the first LF.
+fn first_lf(text: &[u8]) -> Option<usize>
+    ensures { result ≡ position (λ b. b == LF) text.now }
 {
-    row.iter().position(|byte| !is_letter(*byte)).unwrap_or(row.len())
+    text.iter().position(|byte| *byte == b'\n')
+}
+
+// The place of the first byte that is no letter.
+fn first_other(row: &[u8]) -> Option<usize>
+    ensures { result ≡ position (λ b. not (is_letter b)) row.now }
+{
+    row.iter().position(|byte| !is_letter(*byte))
 }
 
 fn is_letter(b: u8) -> bool
     ensures { result ≡ is_letter b }
 {
-    if b == b'.' {
-        return true;
-    }
-    b == b'O'
+    matches!(b, b'.' | b'O')
 }

@@ -8,9 +8,11 @@ pub fn fill_row(w: usize, row: &[u8], cells: &mut [u8])
     requires { (length row.now ≤ w) × (w ≤ length cells.old) }
     ensures { cells.new ≡ filled w (map letter_cell row.now) ++ drop w cells.old }
 {
-    for k in 0..w {
-        cells[k] = if k < row.len() { cell(row[k]) } else { 0 };
+    // Through `cells.iter_mut().zip(row)` a proof wouldn't know the cells that were written.
+    for (k, letter) in row.iter().enumerate() {
+        cells[k] = cell(*letter);
     }
+    cells[row.len()..w].fill(0);
 }
 
 // A letter's cell.

@@ -1,9 +1,11 @@
 // A text, line by line: its size, or the place of its first byte that isn't allowed; and its rows as cells.
-ghost use Rattle.std.specs.Prelude.{◌≡◌, ◌*◌, ◌≤◌, max, length};
+ghost use Rattle.std.specs.Prelude.{◌≡◌, ◌*◌, ◌≤◌, length};
 ghost use Rattle.plaintext.specs.Reading.{judged, first_bad, rows_of, width_of, board_over};
 ghost use Rattle.plaintext.specs.Scanning.{measure_of};
 
-use crate::{Size, line, rows};
+use crate::Size;
+use crate::line::Lines;
+use crate::rows::fill_row;
 use board::Refusal;
 
 // The size of the board that a text holds. Refusal 8, with the place of the first byte that isn't allowed.
@@ -12,13 +14,9 @@ pub fn measure(text: &[u8], at: usize) -> Result<Size, Refusal>
 {
     let mut width = 0;
     let mut height = 0;
-    let mut next = at;
-    while next < text.len() {
-        let from = next;
-        let end = line::line_end(text, from);
-        next = end + 1;
-        if let Some(letters) = line::row_letters(text, from, end)? {
-            width = width.max(letters);
+    for line in Lines::new(text, at) {
+        if let Some(row) = line.row()? {
+            width = width.max(row.len());
             height += 1;
         }
     }
@@ -30,16 +28,13 @@ pub fn fill(text: &[u8], at: usize, w: usize, cells: &mut [u8])
     requires { (w ≡ width_of (rows_of (judged text.now at))) × (w * length (rows_of (judged text.now at)) ≤ length cells.old) }
     ensures { cells.new ≡ board_over (rows_of (judged text.now at)) cells.old }
 {
+    // Through `cells.chunks_exact_mut(w)` a proof wouldn't know the cells that were written.
     let mut k = 0;
-    let mut next = at;
-    while next < text.len() {
-        let from = next;
-        let end = line::line_end(text, from);
-        next = end + 1;
-        let Ok(Some(n)) = line::row_letters(text, from, end) else {
+    for line in Lines::new(text, at) {
+        let Ok(Some(row)) = line.row() else {
             continue;
         };
-        rows::fill_row(w, &text[from..from + n], &mut cells[k..]);
+        fill_row(w, row, &mut cells[k..]);
         k += w;
     }
 }

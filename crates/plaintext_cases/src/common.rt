@@ -1,175 +1,120 @@
-// What the groups share: calls whose answers are plain numbers, parts of buffers, and counts.
+// What the groups share: calls on fresh buffers, and counts of what they answer.
+ghost use Rattle.std.specs.Prelude.{◌<◌, ◌^◌};
+
 use board::Refusal;
-use plaintext::Read;
-use std::num::wrapping_add_u64;
-use writer::Written;
+use plaintext::Size;
+use std::ops::Range;
 
 // What every buffer holds before a call.
 pub const LEFT: u8 = 9;
 
-// The counts: 0 for what was read or written, 1 to 12 for each refusal of these calls, which never answer 13 or 14; 13 for what came out wrong.
-pub const WRONG: usize = 13;
-
-// An answer: 0 or the number of a refusal, its place, and the width and height read or the length written.
-#[derive(Clone, Copy)]
-pub struct Outcome {
-    pub number: usize,
-    pub place: usize,
-    pub width: usize,
-    pub height: usize,
-    pub length: usize,
+// The number of an answer: that of its refusal, or 0.
+pub fn number<T>(answer: &Result<T, Refusal>) -> usize {
+    match answer {
+        Ok(_) => 0,
+        Err(refusal) => refusal.number() as usize,
+    }
 }
 
-pub fn refused(r: Refusal) -> Outcome {
-    let number = r.number();
-    let place = match r {
-        Refusal::Letter(p) => p,
-        Refusal::Cell(p) => p,
-        _ => 0,
+// Reads the text from a place on into the first n of N cells. Where there are fewer it answers 12, which the library never does.
+pub fn read<const N: usize>(text: &[u8], at: usize, n: usize) -> (Result<Size, Refusal>, [u8; N]) {
+    let mut cells = [LEFT; N];
+    let answer = match cells.get_mut(..n) {
+        Some(part) => reader::read_text(text, at, part),
+        None => Err(Refusal::LongText),
     };
-    Outcome {
-        number: number as usize,
-        place,
-        width: 0,
-        height: 0,
-        length: 0,
-    }
+    (answer, cells)
 }
 
-// Reads the text from a place on into the first n cells. Where there are fewer it answers 12, which the library never does.
-pub fn read(text: &[u8], at: usize, cells: &mut [u8], n: usize) -> Outcome {
-    if cells.len() < n {
-        return refused(Refusal::LongText);
-    }
-    match reader::read_text(text, at, &mut cells[..n]) {
-        Read::Refused(r) => refused(r),
-        Read::Board { width, height } => Outcome {
-            number: 0,
-            place: 0,
-            width,
-            height,
-            length: 0,
-        },
-    }
+// Whether reading into n of N cells is refused for want of cells, and leaves them.
+pub fn lacks_cells<const N: usize>(text: &[u8], at: usize, n: usize) -> bool
+    requires { N < 2 ^ 63 }
+{
+    let (answer, cells) = read::<N>(text, at, n);
+    answer == Err(Refusal::BoardLength) && is_left(&cells)
 }
 
-// Writes a board into a part of the text. Where the text has no such part it answers 12.
-pub fn write(w: usize, h: usize, board: &[u8], text: &mut [u8], from: usize, to: usize) -> Outcome {
-    if to < from {
-        return refused(Refusal::LongText);
-    }
-    if text.len() < to {
-        return refused(Refusal::LongText);
-    }
-    match writer::write(w, h, board, &mut text[from..to]) {
-        Written::Refused(r) => refused(r),
-        Written::Length(length) => Outcome {
-            number: 0,
-            place: 0,
-            width: 0,
-            height: 0,
-            length,
-        },
-    }
-}
-
-pub fn same(a: Outcome, b: Outcome) -> bool {
-    if a.number != b.number {
-        return false;
-    }
-    if a.place != b.place {
-        return false;
-    }
-    if a.width != b.width {
-        return false;
-    }
-    if a.height != b.height {
-        return false;
-    }
-    a.length == b.length
+// Writes a board into a part of a text of N bytes. Where the text has no such part it answers 12.
+pub fn write<const N: usize>(
+    w: usize,
+    h: usize,
+    board: &[u8],
+    part: Range<usize>,
+) -> (Result<usize, Refusal>, [u8; N]) {
+    let mut text = [LEFT; N];
+    let answer = match text.get_mut(part) {
+        Some(part) => writer::write(w, h, board, part),
+        None => Err(Refusal::LongText),
+    };
+    (answer, text)
 }
 
 pub fn byte_at(s: &[u8], i: usize) -> u8 {
-    if i < s.len() { s[i] } else { 0 }
+    s.get(i).copied().unwrap_or(0)
 }
 
 // The first n bytes, or all where there are fewer.
 pub fn first(s: &[u8], n: usize) -> &[u8] {
-    if n < s.len() { &s[..n] } else { s }
+    s.get(..n).unwrap_or(s)
 }
 
-// The number of cells of a size within the limits.
-pub fn area(w: usize, h: usize) -> usize {
-    if 10 < w {
-        return 0;
-    }
-    if 60 < h {
-        return 0;
-    }
-    w * h
+// The bytes from a place on.
+pub fn rest(s: &[u8], at: usize) -> &[u8] {
+    s.get(at..).unwrap_or(&[])
 }
 
-// Whether the bytes from a place on are as they were before the call.
-pub fn left_from(s: &[u8], at: usize) -> bool {
-    let mut i = at;
-    while i < s.len() {
-        if s[i] != LEFT {
-            return false;
+// Whether the bytes are as they were before the call.
+pub fn is_left(s: &[u8]) -> bool {
+    s.iter().all(|byte| *byte == LEFT)
+}
+
+// How often each number was answered: 0 for what was read or written, 1 to 12 for each refusal of these calls, which never answer 13 or 14;
+// 13 for what came out wrong.
+#[derive(Drop)]
+pub struct Counts([u64; 14]);
+
+const WRONG: usize = 13;
+
+impl Counts {
+    pub fn new() -> Counts {
+        Counts([0; 14])
+    }
+
+    // Counts an answer, and whether it is wrong.
+    pub fn judge(&mut self, number: usize, right: bool) {
+        self.count(number);
+        if !right {
+            self.count(WRONG);
         }
-        i += 1;
     }
-    true
-}
 
-// Whether the first bytes are those of a part.
-pub fn starts_with(s: &[u8], part: &[u8]) -> bool {
-    let mut i = 0;
-    while i < part.len() {
-        if byte_at(s, i) != part[i] {
-            return false;
+    fn count(&mut self, number: usize) {
+        if let Some(n) = self.0.get_mut(number) {
+            *n = n.wrapping_add(1);
         }
-        i += 1;
     }
-    part.len() <= s.len()
-}
 
-pub fn count(counts: &mut [u64; 14], n: usize) {
-    if n < 14 {
-        counts[n] = wrapping_add_u64(counts[n], 1);
-    }
-}
-
-// Counts an answer, and whether it is wrong.
-pub fn judge(counts: &mut [u64; 14], number: usize, right: bool) {
-    count(&mut *counts, number);
-    if !right {
-        count(&mut *counts, WRONG);
+    // A group's line: its name, and the counts that aren't 0.
+    pub fn print(&self, name: &[u8]) {
+        io::write_all(1, name);
+        for (number, count) in self.0.iter().enumerate() {
+            print_one(number, *count);
+        }
+        io::write_all(1, b"\n");
     }
 }
 
-fn print_one(n: u64, count: u64) {
-    if n == 13 {
+fn print_one(number: usize, count: u64) {
+    if number == WRONG {
         io::write_all(1, b", wrong ");
+    } else if count == 0 {
+        return;
+    } else if number == 0 {
+        io::write_all(1, b" passed ");
     } else {
-        if count == 0 {
-            return;
-        }
-        if n == 0 {
-            io::write_all(1, b" passed ");
-        } else {
-            io::write_all(1, b", refused with ");
-            io::print_decimal(1, n);
-            io::write_all(1, b": ");
-        }
+        io::write_all(1, b", refused with ");
+        io::print_decimal(1, number as u64);
+        io::write_all(1, b": ");
     }
     io::print_decimal(1, count);
-}
-
-// A group's line: its name, and the counts that aren't 0.
-pub fn print(name: &[u8], counts: &[u64; 14]) {
-    io::write_all(1, name);
-    for i in 0..14usize {
-        print_one(i as u64, counts[i]);
-    }
-    io::write_all(1, b"\n");
 }

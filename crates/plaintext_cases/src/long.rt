@@ -1,24 +1,26 @@
 // A long text: 60 rows of 10 cells, each ended by CR and LF and preceded by a comment.
-use crate::common::LEFT;
+use crate::common::Counts;
 use crate::{common, made};
+use plaintext::Size;
 
-fn right_cells(cells: &[u8; 640]) -> bool {
-    for k in 0..600usize {
-        if cells[k] != made::cell(k) {
-            return false;
-        }
-    }
-    true
+fn right_cells(cells: &[u8]) -> bool {
+    cells
+        .iter()
+        .enumerate()
+        .all(|(k, cell)| *cell == made::cell(k))
 }
 
 pub fn run() {
-    let mut counts = [0u64; 14];
-    let mut text = [0u8; 4560];
-    let mut cells = [LEFT; 640];
+    let mut counts = Counts::new();
+    let mut text = [0; 4560];
     made::fill(&mut text, 76);
-    let o = common::read(&text, 0, &mut cells, 640);
-    let size = o.width == 10 && o.height == 60;
-    let held = right_cells(&cells) && common::left_from(&cells, 600);
-    common::judge(&mut counts, o.number, size && held);
-    common::print(b"a text of 4560 bytes:", &counts);
+    let (answer, cells) = common::read::<640>(&text, 0, 640);
+    let size = Size {
+        width: 10,
+        height: 60,
+    };
+    let held = right_cells(common::first(&cells, 600))
+        && common::is_left(common::rest(&cells, 600));
+    counts.judge(common::number(&answer), answer == Ok(size) && held);
+    counts.print(b"a text of 4560 bytes:");
 }

@@ -2,18 +2,14 @@
 
 // A cell of the long text.
 pub fn cell(k: usize) -> u8 {
-    if k % 3 == 0 {
-        1
-    } else if k % 7 == 2 {
-        1
-    } else {
-        0
-    }
+    u8::from(k % 3 == 0 || k % 7 == 2)
 }
 
 fn comment_byte(i: usize) -> u8 {
-    let b = i % 256;
-    if b == 10 { b'!' } else { b as u8 }
+    match i % 256 {
+        10 => b'!',
+        byte => byte as u8,
+    }
 }
 
 // Byte i of the long text: a comment of 64 bytes that may hold every byte but LF, then a row of 10 letters with CR and LF.
@@ -34,21 +30,16 @@ fn long_byte(i: usize) -> u8 {
 
 // Byte i of rows that take so many bytes each, or of the long text, where they take 76.
 fn byte(period: usize, i: usize) -> u8 {
-    if period == 76 {
-        return long_byte(i);
-    }
-    if period == 0 {
-        return b'\n';
-    }
-    if i % period == period - 1 {
-        b'\n'
-    } else {
-        b'.'
+    match period {
+        76 => long_byte(i),
+        0 => b'\n',
+        _ if i % period == period - 1 => b'\n',
+        _ => b'.',
     }
 }
 
 pub fn fill(text: &mut [u8], period: usize) {
-    for i in 0..text.len() {
-        text[i] = byte(period, i);
+    for (i, place) in text.iter_mut().enumerate() {
+        *place = byte(period, i);
     }
 }

@@ -1,24 +1,32 @@
 // The refusals in their order: each call breaks several rules, and fewer from call to call. 0 is no refusal.
-use crate::common::{LEFT, Outcome};
 use crate::{common, made};
+use board::Refusal;
 
-fn show(o: Outcome) {
+fn place(refusal: Refusal) -> usize {
+    match refusal {
+        Refusal::Letter(place) | Refusal::Cell(place) => place,
+        _ => 0,
+    }
+}
+
+fn show<T>(answer: &Result<T, Refusal>) {
     io::write_all(1, b" ");
-    io::print_decimal(1, o.number as u64);
-    if o.place != 0 {
-        io::write_all(1, b" at ");
-        io::print_decimal(1, o.place as u64);
+    io::print_decimal(1, common::number(answer) as u64);
+    if let Err(refusal) = answer {
+        let place = place(*refusal);
+        if place != 0 {
+            io::write_all(1, b" at ");
+            io::print_decimal(1, place as u64);
+        }
     }
 }
 
 fn show_write(w: usize, h: usize, board: &[u8], room: usize) {
-    let mut text = [LEFT; 16];
-    show(common::write(w, h, board, &mut text, 0, room));
+    show(&common::write::<16>(w, h, board, 0..room).0);
 }
 
 fn show_read(text: &[u8], at: usize, room: usize) {
-    let mut cells = [LEFT; 600];
-    show(common::read(text, at, &mut cells, room));
+    show(&common::read::<600>(text, at, room).0);
 }
 
 fn text_out() {

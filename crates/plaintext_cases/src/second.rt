@@ -1,114 +1,86 @@
 // A second reader of short texts, for comparison: it asks of each byte which line it stands in, by looking back from it.
-use crate::common;
-use crate::common::Outcome;
-use std::num::{wrapping_add_usize, wrapping_sub_usize};
+use crate::common::byte_at;
+use board::Refusal;
+use plaintext::Size;
 
-// Where the line of the byte at a place starts.
-fn line_start(text: &[u8], at: usize, i: usize) -> usize {
-    let mut s = i;
-    while at < s {
-        if common::byte_at(text, wrapping_sub_usize(s, 1)) == b'\n' {
-            return s;
-        }
-        s -= 1;
-    }
-    s
+// The live cells of up to eight rows of eight.
+pub type Grid = [[u8; 8]; 8];
+
+// A text that is read from a place on.
+#[derive(Clone, Copy)]
+struct Text<'a> {
+    bytes: &'a [u8],
+    at: usize,
 }
 
-fn in_comment(text: &[u8], at: usize, i: usize) -> bool {
-    common::byte_at(text, line_start(text, at, i)) == b'!'
-}
+impl<'a> Text<'a> {
+    // Where the line of the byte at a place starts.
+    fn line_start(self, i: usize) -> usize {
+        (self.at..i)
+            .rev()
+            .find(|k| byte_at(self.bytes, *k) == b'\n')
+            .map_or(self.at, |k| k.wrapping_add(1))
+    }
 
-fn allowed(text: &[u8], at: usize, i: usize) -> bool {
-    if in_comment(text, at, i) {
-        return true;
+    fn in_comment(self, i: usize) -> bool {
+        byte_at(self.bytes, self.line_start(i)) == b'!'
     }
-    match common::byte_at(text, i) {
-        b'.' | b'O' | b'\n' => true,
-        b'\r' => common::byte_at(text, wrapping_add_usize(i, 1)) == b'\n',
-        _ => false,
-    }
-}
 
-// Whether a row starts at a place.
-fn row_starts(text: &[u8], at: usize, i: usize) -> bool {
-    if in_comment(text, at, i) {
-        return false;
-    }
-    line_start(text, at, i) == i
-}
-
-// How many rows start before a place.
-fn rows_before(text: &[u8], at: usize, end: usize) -> usize {
-    let mut n = 0;
-    let mut i = at;
-    while i < end {
-        if row_starts(text, at, i) {
-            n = wrapping_add_usize(n, 1);
-        }
-        i += 1;
-    }
-    n
-}
-
-// The column of a letter, from 1; 0 where there is no letter of a row.
-fn column(text: &[u8], at: usize, i: usize) -> usize {
-    if in_comment(text, at, i) {
-        return 0;
-    }
-    match common::byte_at(text, i) {
-        b'.' | b'O' => wrapping_add_usize(wrapping_sub_usize(i, line_start(text, at, i)), 1),
-        _ => 0,
-    }
-}
-
-// Marks a live cell in a grid of rows of eight.
-fn mark(text: &[u8], at: usize, i: usize, grid: &mut [u8; 64]) {
-    let row = rows_before(text, at, line_start(text, at, i));
-    let c = column(text, at, i);
-    if row < 8 {
-        if c < 9 {
-            if 0 < c {
-                if common::byte_at(text, i) == b'O' {
-                    grid[row * 8 + c - 1] = 1;
-                }
-            }
+    fn is_allowed(self, i: usize) -> bool {
+        match byte_at(self.bytes, i) {
+            b'.' | b'O' | b'\n' => true,
+            b'\r' if byte_at(self.bytes, i.wrapping_add(1)) == b'\n' => true,
+            _ => self.in_comment(i),
         }
     }
-}
 
-fn greater(a: usize, b: usize) -> usize {
-    if a < b { b } else { a }
-}
+    // Whether a row starts at a place.
+    fn row_starts(self, i: usize) -> bool {
+        !self.in_comment(i) && self.line_start(i) == i
+    }
 
-fn answer(number: usize, place: usize, width: usize, height: usize) -> Outcome {
-    Outcome {
-        number,
-        place,
-        width,
-        height,
-        length: 0,
+    // How many rows start before a place.
+    fn rows_before(self, end: usize) -> usize {
+        (self.at..end).filter(|i| self.row_starts(*i)).count()
+    }
+
+    // The column of a letter, from 1; 0 where there is no letter of a row.
+    fn column(self, i: usize) -> usize {
+        match byte_at(self.bytes, i) {
+            b'.' | b'O' if !self.in_comment(i) => i
+                .wrapping_sub(self.line_start(i))
+                .wrapping_add(1),
+            _ => 0,
+        }
+    }
+
+    // Marks a live cell.
+    fn mark(self, i: usize, grid: &mut Grid) {
+        let row = self.rows_before(self.line_start(i));
+        let c = self.column(i);
+        if row < 8 && 0 < c && c < 9 && byte_at(self.bytes, i) == b'O' {
+            grid[row][c - 1] = 1;
+        }
     }
 }
 
 // What reading a text of a few bytes from a place on answers, into room enough; its live cells are marked in the grid.
-pub fn read(text: &[u8], at: usize, grid: &mut [u8; 64]) -> Outcome {
+pub fn read(bytes: &[u8], at: usize, grid: &mut Grid) -> Result<Size, Refusal> {
+    let text = Text { bytes, at };
     let mut width = 0;
-    let mut i = at;
-    while i < text.len() {
-        if !allowed(text, at, i) {
-            return answer(8, i, 0, 0);
+    for i in at..bytes.len() {
+        if !text.is_allowed(i) {
+            return Err(Refusal::Letter(i));
         }
-        mark(text, at, i, &mut *grid);
-        width = greater(width, column(text, at, i));
-        i += 1;
+        text.mark(i, &mut *grid);
+        width = width.max(text.column(i));
     }
-    let height = rows_before(text, at, text.len());
+    let height = text.rows_before(bytes.len());
     if height == 0 {
-        return answer(2, 0, 0, 0);
+        return Err(Refusal::Height);
     }
     if width == 0 {
-        return answer(1, 0, 0, 0);
+        return Err(Refusal::Width);
     }
-    answer(0, 0, width, height)
+    Ok(Size { width, height })
 }

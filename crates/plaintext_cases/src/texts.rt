@@ -1,102 +1,70 @@
 // Every text of up to five bytes over `.`, `O`, `!`, CR, LF and x, read from each of its places and from one past its end, by the library
 // and by a second reader; and where it is a board, into just its cells and into one fewer.
-use crate::common::{LEFT, Outcome, WRONG};
+use crate::common::{Counts, LEFT};
+use crate::second::Grid;
 use crate::{common, second};
-use std::num::wrapping_sub_usize;
+use board::Refusal;
+use plaintext::Size;
 
-fn symbol(digit: usize) -> u8 {
-    match digit {
-        0 => b'.',
-        1 => b'O',
-        2 => b'!',
-        3 => b'\r',
-        4 => b'\n',
-        _ => b'x',
-    }
-}
+const SYMBOLS: [u8; 6] = *b".O!\r\nx";
 
 // The five symbols of a number.
 fn text_of(index: usize) -> [u8; 5] {
-    [
-        symbol(index % 6),
-        symbol(index / 6 % 6),
-        symbol(index / 36 % 6),
-        symbol(index / 216 % 6),
-        symbol(index / 1296 % 6),
-    ]
+    let mut text = [0; 5];
+    let mut left = index;
+    for byte in text.iter_mut() {
+        *byte = SYMBOLS[left % 6];
+        left /= 6;
+    }
+    text
 }
 
 // What cell i holds after a reading: the second reader's, and past its board what it held.
-fn wanted(grid: &[u8; 64], o: Outcome, i: usize) -> u8 {
-    if o.number != 0 {
-        return LEFT;
-    }
-    if o.width == 0 {
-        return LEFT;
-    }
-    let row = i / o.width;
-    let column = i % o.width;
-    if row < o.height {
-        if row < 8 {
-            if column < 8 {
-                return grid[row * 8 + column];
+fn wanted(grid: &Grid, answer: Result<Size, Refusal>, i: usize) -> u8 {
+    match answer {
+        Ok(size) if size.width != 0 => {
+            let row = i / size.width;
+            let column = i % size.width;
+            if row < size.height && row < 8 && column < 8 {
+                grid[row][column]
+            } else {
+                LEFT
             }
         }
+        _ => LEFT,
     }
-    LEFT
 }
 
-fn same_cells(cells: &[u8; 40], grid: &[u8; 64], o: Outcome) -> bool {
-    for i in 0..40usize {
-        if cells[i] != wanted(grid, o, i) {
-            return false;
-        }
-    }
-    true
-}
-
-// The number of a reading into n cells, of which a refusal writes none.
-fn number_into(text: &[u8], at: usize, n: usize) -> usize {
-    let mut cells = [LEFT; 40];
-    let o = common::read(text, at, &mut cells, n);
-    if o.number == 0 {
-        return 0;
-    }
-    if common::left_from(&cells, 0) {
-        o.number
-    } else {
-        WRONG
-    }
+fn same_cells(cells: &[u8; 40], grid: &Grid, answer: Result<Size, Refusal>) -> bool {
+    cells
+        .iter()
+        .enumerate()
+        .all(|(i, cell)| *cell == wanted(grid, answer, i))
 }
 
 // Just as many cells as the board has, and one fewer.
-fn right_room(text: &[u8], at: usize, n: usize) -> bool {
-    if number_into(text, at, n) != 0 {
-        return false;
-    }
-    number_into(text, at, wrapping_sub_usize(n, 1)) == 5
+fn right_room(text: &[u8], at: usize, size: Size) -> bool {
+    let n = size.width.wrapping_mul(size.height);
+    common::read::<40>(text, at, n).0.is_ok()
+        && common::lacks_cells::<40>(text, at, n.wrapping_sub(1))
 }
 
-fn right(text: &[u8], at: usize, got: Outcome, cells: &[u8; 40]) -> bool {
-    let mut grid = [0u8; 64];
-    let o = second::read(text, at, &mut grid);
-    if !common::same(got, o) {
+fn right(text: &[u8], at: usize, got: Result<Size, Refusal>, cells: &[u8; 40]) -> bool {
+    let mut grid = [[0; 8]; 8];
+    let answer = second::read(text, at, &mut grid);
+    if got != answer || !same_cells(cells, &grid, answer) {
         return false;
     }
-    if !same_cells(cells, &grid, o) {
-        return false;
+    match got {
+        Ok(size) => right_room(text, at, size),
+        Err(_) => true,
     }
-    if got.number != 0 {
-        return true;
-    }
-    right_room(text, at, common::area(got.width, got.height))
 }
 
-fn try_text(text: &[u8], at: usize, counts: &mut [u64; 14]) {
-    let mut cells = [LEFT; 40];
-    let got = common::read(text, at, &mut cells, 40);
+fn try_text(text: &[u8], at: usize, counts: &mut Counts) {
+    let (got, cells) = common::read(text, at, 40);
     let fine = right(text, at, got, &cells);
-    common::judge(counts, got.number, fine);
+    counts.judge(common::number(&got), fine);
     if !fine {
         io::write_all(1, b"wrong at ");
         io::print_decimal(1, at as u64);
@@ -106,27 +74,14 @@ fn try_text(text: &[u8], at: usize, counts: &mut [u64; 14]) {
     }
 }
 
-fn try_places(text: &[u8], counts: &mut [u64; 14]) {
-    for at in 0..text.len() + 2 {
-        try_text(text, at, &mut *counts);
-    }
-}
-
-// The first texts of n bytes, so many of them.
-fn try_length(n: usize, texts: usize, counts: &mut [u64; 14]) {
-    for index in 0..texts {
-        let text = text_of(index);
-        try_places(common::first(&text, n), &mut *counts);
-    }
-}
-
 pub fn run() {
-    let mut counts = [0u64; 14];
-    try_length(0, 1, &mut counts);
-    try_length(1, 6, &mut counts);
-    try_length(2, 36, &mut counts);
-    try_length(3, 216, &mut counts);
-    try_length(4, 1296, &mut counts);
-    try_length(5, 7776, &mut counts);
-    common::print(b"texts of up to 5 bytes, from each place:", &counts);
+    let mut counts = Counts::new();
+    for (n, texts) in [1, 6, 36, 216, 1296, 7776].iter().enumerate() {
+        for index in 0..*texts {
+            for at in 0..n + 2 {
+                try_text(common::first(&text_of(index), n), at, &mut counts);
+            }
+        }
+    }
+    counts.print(b"texts of up to 5 bytes, from each place:");
 }

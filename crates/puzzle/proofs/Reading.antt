@@ -18,7 +18,8 @@ use Rattle.board.specs.declared.Refusal.TheVariants.{LongText}
 use Rattle.board.proofs.Answers.{refuses_none}
 use Rattle.board.proofs.Checks.{boarded}
 use Rattle.plaintext.specs.Reading.{judged, first_bad, rows_of, width_of, size_rule, read_rule, board_over, read_says, ReadsText}
-use Rattle.plaintext.specs.declared.Read as Read
+use Rattle.std.specs.Prelude.{Result, Ok, Err}
+use Rattle.plaintext.specs.declared.Size.{Size}
 use Rattle.plaintext.proofs.Reading.{reads_a_board, read_cells}
 use Rattle.plaintext.proofs.RowCells.{cells_long}
 use Rattle.puzzle.specs.Sizes.{longest_text, cell_room, entry_room, output_room, program_sizes}
@@ -78,16 +79,22 @@ unfolding text_check
 long_text {text} h P long = turned_text LongText P long (rw (lt-leb (length text) longest_text h) refl) refl
 
 -- ---- a text that is read
-module _ {text cells cells' : List ℕ} {v : Read.Read} (short : length text ≤ longest_text) (room : length cells ≡ cell_room) (R : ReadsText text 0 cells cells' v) where
+module _ {text cells cells' : List ℕ} {v : Result Size Refusal} (short : length text ≤ longest_text) (room : length cells ≡ cell_room) (R : ReadsText text 0 cells cells' v) where
   check : text_check text ≡ read_says v
   unfolding text_check
   check = rw (le-leb (length text) longest_text short, ← room) (sym R.answers)
 
-  pub refused_text : (r : Refusal) {t β o o' : List ℕ} {n : ℕ} → v ≡ Read.Read.Refused r → Prints (refused_line (number_of r)) o n o' → length o' ≡ length o
+  pub refused_text : (r : Refusal) {t β o o' : List ℕ} {n : ℕ} → v ≡ Err r → Prints (refused_line (number_of r)) o n o' → length o' ≡ length o
       → AnswersText text cells t β o n cells' t β o'
   refused_text r e P long = turned_text r P long (check ∙ ap read_says e) (rw (← R.answers, e) at R.leaves)
 
-  module _ {w h : ℕ} (e : v ≡ Read.Read.Board w h) where
+  module _ {size : Size} (e : v ≡ Ok size) where
+    abbrev w : ℕ
+    w = size.width
+
+    abbrev h : ℕ
+    h = size.height
+
     pub read_board : Board w h (take (w * h) cells')
     read_board = boarded w h _ (reads_a_board text 0 cells cells' w h (rw e at R))
 

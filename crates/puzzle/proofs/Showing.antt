@@ -1,6 +1,6 @@
 -- A board is never refused where there is room for its text, and its text is printed.
 -- Assumes nothing.
-use mathlib.Core.Path.{◌≡◌, refl, sym, ◌∙◌, ap}
+use mathlib.Core.Path.{◌≡◌, refl, sym, ◌∙◌}
 use mathlib.Core.List.{List, [], ◌∷◌}
 use Prim.Native.Nat.{ℕ, ◌+◌, ◌≤◌}
 use native.Mathlib.Nat.{mul-le-mul}
@@ -13,8 +13,7 @@ use Rattle.board.specs.declared.Refusal.{Refusal}
 use Rattle.board.proofs.Answers.{refuses_none}
 use Rattle.board.proofs.Checks.{board_passes}
 use Rattle.writer.specs.Writing.{board_text, text_length, text_over, write_rule, written_says, WritesText}
-use Rattle.writer.specs.declared.Written.{Written}
-use Rattle.writer.specs.declared.Written.TheVariants.{Length, Refused}
+use Rattle.std.specs.Prelude.{Result, Ok, Err}
 use Rattle.writer.proofs.BoardRows.{text_has_length}
 use Rattle.puzzle.specs.Printing.{Prints}
 
@@ -24,27 +23,18 @@ text_short w h s =
     let m : w + 1 ≤ 11 = omega (arith, s.narrow) in
     mul-le-mul s.low m
 
-length_of : (r : Written) {n : ℕ} → written_says r ≡ gives (n ∷ []) → r ≡ Length n
-length_of (Length m) e = cc e
-length_of (Refused r) e = absurd (refuses_none e)
+length_of : (r : Result ℕ Refusal) {n : ℕ} → written_says r ≡ gives (n ∷ []) → r ≡ Ok n
+length_of (Ok m) e = cc e
+length_of (Err r) e = absurd (refuses_none e)
 
-module _ {w h : ℕ} {cells text text' : List ℕ} {r : Written} (B : Board w h cells) (room : 660 ≤ length text) (W : WritesText w h cells text text' r) where
+module _ {w h : ℕ} {cells text text' : List ℕ} {r : Result ℕ Refusal} (B : Board w h cells) (room : 660 ≤ length text) (W : WritesText w h cells text text' r) where
   rule : write_rule w h cells (length text) ≡ gives (text_length w h ∷ [])
   unfolding write_rule
   rule = let s = text_short w h B.size in rw (board_passes B, le-leb (text_length w h) (length text) (omega arith)) refl
 
-  written : r ≡ Length (text_length w h)
+  pub written : r ≡ Ok (text_length w h)
   written = length_of _ (W.answers ∙ rule)
 
-  pub never_refused : {why : Refusal} → r ≡ Refused why → ⊥
-  never_refused e = refuses_none (ap written_says (sym e ∙ written))
-
-  letters : {n : ℕ} → r ≡ Length n → n ≡ text_length w h
-  letters {n} e = let q : Length n ≡ Length (text_length w h) = sym e ∙ written in cc q
-
-  pub letters_short : {n : ℕ} → r ≡ Length n → n ≤ 660
-  letters_short {n} e = rw (letters e) (text_short w h B.size)
-
-  pub prints_board : {n : ℕ} → r ≡ Length n → Prints (board_text w h cells) text n text'
+  pub prints_board : Prints (board_text w h cells) text (text_length w h) text'
   unfolding text_over
-  prints_board e = rw (letters e) record { count = sym (text_has_length w h cells B.bytes.long); bytes = rw rule at W.leaves }
+  prints_board = record { count = sym (text_has_length w h cells B.bytes.long); bytes = rw rule at W.leaves }

@@ -1,5 +1,6 @@
 -- What is printed of a solved grid, by what solving answers.
 -- Assumes nothing.
+use Rattle.std.specs.Prelude.{Err, None, Ok, Option, Result, Some}
 use mathlib.Core.Path.{◌≡◌, refl, sym, ◌∙◌, ap}
 use mathlib.Core.Bool.{Bool, false}
 use mathlib.Core.List.{List}
@@ -24,9 +25,9 @@ use Rattle.job_kind.specs.declared.Kind.{Kind}
 use Rattle.service.specs.Service.{finished, infeasible}
 use Rattle.third_demand.specs.Grid.{score}
 use Rattle.runner.specs.Solving.{memory_check, solve_check, solved_says, Ends, best, none, SolvesTo, Solves}
-use Rattle.runner.specs.declared.Solved as Solved
 use Rattle.puzzle.specs.Printing.{Prints}
 use Rattle.puzzle.specs.Answering.{printed, SolvesGrid}
+use Rattle.board.specs.declared.Refusal.{Refusal}
 
 -- a grid that is solved passed its checks, which give no values
 unless_passed : (t : Bool) (n : ℕ) {values : List ℕ} → refuse_unless t n ≡ gives values → gives values ≡ passed
@@ -72,20 +73,20 @@ module _ {w h : ℕ} {g t β t' β' : List ℕ} {n : ℕ} (c : SolvesTo (solve_c
       go (refuses k values) e = absurd (refuses_none (sym (c.turned k values e).0))
       go (gives values) e = let p = check_passed w h g t β e in ends_scored p.1 (c.ended p.0)
 
-module _ {w h : ℕ} {g t β t' β' : List ℕ} {v : Solved.Solved} (S : Solves Kind.TwoLayers conway_rule w h g t β v t' β') where
-  scored : {n : ℕ} → v ≡ Solved.Solved.Best n → Scored w h β' n
+module _ {w h : ℕ} {g t β t' β' : List ℕ} {v : Result (Option ℕ) Refusal} (S : Solves Kind.TwoLayers conway_rule w h g t β v t' β') where
+  scored : {n : ℕ} → v ≡ Ok (Some n) → Scored w h β' n
   scored e = comes_scored (rw (ap solved_says e) at S.comes)
 
-  pub solved_board : {n : ℕ} → v ≡ Solved.Solved.Best n → Board w h β'
+  pub solved_board : {n : ℕ} → v ≡ Ok (Some n) → Board w h β'
   solved_board e = (scored e).grid
 
-  pub score_short : {n : ℕ} → v ≡ Solved.Solved.Best n → n < 1000
+  pub score_short : {n : ℕ} → v ≡ Ok (Some n) → n < 1000
   score_short e =
       let s = scored e in
       let m = mul-le-mul s.grid.size.narrow s.grid.size.low in
       omega arith
 
   -- what it answers is printed
-  pub prints_solved : {givens o o' : List ℕ} {n : ℕ} (u : Solved.Solved) → g ≡ givens → v ≡ u → Prints (printed w h u β') o n o'
+  pub prints_solved : {givens o o' : List ℕ} {n : ℕ} (u : Result (Option ℕ) Refusal) → g ≡ givens → v ≡ u → Prints (printed w h u β') o n o'
       → SolvesGrid w h givens t β o n t' β' o'
   prints_solved u given e P = record { answer = v; solves = rw given at S; prints = rw e P }

@@ -1,24 +1,23 @@
 -- Document 01, "Plaintext boards and the program": what the program prints of a text, and what its memory holds then.
 -- Assumes nothing.
-use Rattle.std.specs.Prelude.{◌≡◌, true, false, List, [], ◌∷◌, ◌++◌, ℕ, ◌*◌, ◌≤◌, length, take, drop}
+use Rattle.std.specs.Prelude.{◌≡◌, true, false, List, [], ◌∷◌, ◌++◌, ℕ, ◌*◌, ◌≤◌, length, take, drop, Err, None, Ok, Option, Result, Some}
 use Rattle.board.specs.Answers.{gives, refuses, number_of}
 use Rattle.rule.specs.Rule.{conway_rule}
 use Rattle.runner.specs.Solving.{Solves}
-use Rattle.runner.specs.declared.Solved.{Solved}
-use Rattle.runner.specs.declared.Solved.TheVariants.{Best, Infeasible, Refused}
 use Rattle.puzzle.specs.Sizes.{program_kind, program_sizes}
 use Rattle.puzzle.specs.Texts.{text_check, text_givens}
 use Rattle.puzzle.specs.Printing.{best_text, none_line, refused_line, Prints}
+use Rattle.board.specs.declared.Refusal.{Refusal}
 
 -- what is printed of a grid of w by h, by what solving it answers and the board that it leaves
-abbrev pub printed : ℕ → ℕ → Solved → List ℕ → List ℕ
-printed w h (Best score) board = best_text score w h board
-printed w h Infeasible board = none_line
-printed w h (Refused r) board = refused_line (number_of r)
+abbrev pub printed : ℕ → ℕ → Result (Option ℕ) Refusal → List ℕ → List ℕ
+printed w h (Ok (Some score)) board = best_text score w h board
+printed w h (Ok None) board = none_line
+printed w h (Err r) board = refused_line (number_of r)
 
 -- "as .. opening and working": a grid is solved under Conway's rule, by a job of the program's kind, and what that answers is printed
 pub record SolvesGrid (w h : ℕ) (givens table board output : List ℕ) (n : ℕ) (table' board' output' : List ℕ) : Type 0 where
-  pub answer : Solved
+  pub answer : Result (Option ℕ) Refusal
   pub solves : Solves program_kind conway_rule w h givens table board answer table' board'
   pub prints : Prints (printed w h answer board') output n output'
 

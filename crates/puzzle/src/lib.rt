@@ -104,7 +104,7 @@ fn solve_cells(
     match runner::solve(Kind::TwoLayers, rule::conway(), w, h, cells, table, board) {
         Ok(Some(score)) => printing::put_best(w, h, board, score, output),
         Ok(None) => printing::put(b"!none\n", output),
-        Err(r) => printing::put_refusal(r, output),
+        Err(refusal) => printing::put_refusal(refusal, output),
     }
 }
 

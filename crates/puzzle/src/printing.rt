@@ -3,7 +3,7 @@ ghost use Rattle.std.specs.Prelude.{◌≡◌, ◌+◌, ◌≤◌, ◌<◌, leng
 ghost use Rattle.board.specs.Boards.{Board};
 ghost use Rattle.board.specs.Answers.{number_of};
 ghost use Rattle.puzzle.specs.Sizes.{output_room};
-ghost use Rattle.puzzle.specs.Printing.{digit_byte, decimal, line, refused_line, best_text, Prints};
+ghost use Rattle.puzzle.specs.Printing.{decimal, line, refused_line, best_text, Prints};
 
 use board::Refusal;
 
@@ -13,10 +13,8 @@ pub fn put_best(w: usize, h: usize, board: &[u8], score: usize, output: &mut [u8
     ensures { Prints (best_text score w h board.now) output.old result output.new }
 {
     let from = put_line(b"!", score, output);
-    match writer::write(w, h, board, &mut output[from..]) {
-        Ok(letters) => from + letters,
-        Err(_) => from,
-    }
+    // Never refused: there is room for the text.
+    from + writer::write(w, h, board, &mut output[from..]).unwrap_or(0)
 }
 
 // `!refused ` and the number.
@@ -46,30 +44,11 @@ pub fn put(bytes: &[u8], output: &mut [u8]) -> usize
     bytes.len()
 }
 
-// A number below 1,000 in decimal.
+// A number below 1,000 in decimal. Not by `write!`: its contract doesn't say when it succeeds.
+#[tactic(auto, using(crate::proofs::Pieces::decimal_std, crate::proofs::Pieces::std_short))]
 fn put_number(number: usize, output: &mut [u8]) -> usize
     requires { (number < 1000) × (3 ≤ length output.old) }
     ensures { Prints (decimal number) output.old result output.new }
 {
-    if number < 10 {
-        output[0] = digit(number);
-        return 1;
-    }
-    let tenth = number / 10;
-    if number < 100 {
-        output[0] = digit(tenth);
-        output[1] = digit(number);
-        return 2;
-    }
-    output[0] = digit(tenth / 10);
-    output[1] = digit(tenth);
-    output[2] = digit(number);
-    3
-}
-
-// The last digit of a number.
-fn digit(number: usize) -> u8
-    ensures { result ≡ digit_byte number }
-{
-    b'0' + (number % 10) as u8
+    put(itoa::Buffer::new().format(number).as_bytes(), output)
 }

@@ -14,14 +14,14 @@ pub struct Reader<'a> {
 }
 
 // A reader that stands at a place of the bytes, at or past their end too.
-pub fn new<'a>(text: &'a [u8], at: usize) -> Reader<'a>
+pub fn new(text: &[u8], at: usize) -> Reader<'_>
     ensures { (result.text ≡ text.entry) × (result.at ≡ at) }
 {
     Reader { text, at }
 }
 
 // Reads the board that stands from the reader's place on, into the first cells. Refusals 8, 2, 1, 5.
-pub fn read<'a, 'b>(r: Reader<'a>, cells: &'b mut [u8]) -> Result<Size, Refusal>
+pub fn read(r: Reader<'_>, cells: &mut [u8]) -> Result<Size, Refusal>
     ensures { ReadsText r.entry.text.now r.entry.at cells.old cells.new result }
 {
     plaintext::read_at(r.text, r.at, cells)

@@ -1,42 +1,45 @@
-// Lines on standard output, for the programs.
+// Standard output, for the programs. What can't be written is lost, as there is nobody to tell.
 #![tactic(auto)]
 
-use board::{Check, Refusal};
+use board::Refusal;
+use std::fmt;
+use std::fmt::{Display, Write};
 
-pub fn text(s: &[u8]) {
-    io::write_all(1, s);
+// Standard output as a sink of text.
+#[derive(Clone, Copy)]
+pub struct Output;
+
+impl Write for Output {
+    fn write_str(&mut self, s: &str) -> fmt::Result {
+        if io::write_all(1, s.as_bytes()) {
+            Ok(())
+        } else {
+            Err(fmt::Error)
+        }
+    }
 }
 
-pub fn number(n: usize) {
-    io::print_decimal(1, n as u64);
+pub fn text(s: &str) {
+    let _ = Output.write_str(s);
 }
 
-// A line: a name and a number.
-pub fn line(name: &[u8], n: usize) {
-    text(name);
-    number(n);
-    text(b"\n");
+// A line: a name and a value.
+pub fn line<D: Display + Drop>(name: &str, value: D) {
+    let _ = writeln!(Output, "{name}{value}");
 }
 
 // A line: a name, and what a check came to.
-pub fn check(name: &[u8], c: Check) {
-    text(name);
+pub fn check(name: &str, c: Result<(), Refusal>) {
     match c {
-        Check::Passed => text(b": passed\n"),
-        Check::Refused(r) => refusal(r),
+        Ok(()) => line(name, ": passed"),
+        Err(r) => {
+            text(name);
+            refusal(r);
+        }
     }
 }
 
 // The end of a line: a refusal's number, and its place where it has one.
 pub fn refusal(r: Refusal) {
-    text(b": refused ");
-    number(r.number() as usize);
-    match r {
-        Refusal::Mark(place) => line(b" at ", place),
-        Refusal::Letter(place) => line(b" at ", place),
-        Refusal::Cell(place) => line(b" at ", place),
-        Refusal::EdgeThree(place) => line(b" at ", place),
-        Refusal::Lopsided(place) => line(b" at ", place),
-        _ => text(b"\n"),
-    }
+    line(": refused ", r);
 }

@@ -1,5 +1,6 @@
 -- What opening answers tells of solving: a refusal is solving's too, and a job that is handed out is run over its givens.
 -- Assumes nothing.
+use Rattle.std.specs.Prelude.{Err, None, Ok, Option, Result, Some}
 use mathlib.Core.Path.{◌≡◌, refl, sym, ◌∙◌, ap}
 use mathlib.Core.List.{List}
 use Prim.Native.Nat.{ℕ}
@@ -14,9 +15,7 @@ use Rattle.job.proofs.Fits.{frame_passes, opening_shows}
 use Rattle.job.specs.Calls.{Opens}
 use Rattle.job_kind.specs.declared.Kind.{Kind}
 use Rattle.job.specs.declared.Job.{Job}
-use Rattle.job.specs.declared.JobResult.{JobResult}
 use Rattle.runner.specs.Solving.{memory_check, solve_check, Solves, Ready, Runs}
-use Rattle.runner.specs.declared.Solved.{Solved}
 
 -- what is refused before the last check is refused whatever comes last
 refused_then : (a b : Answer) (values : List ℕ) {us : List ℕ} {n : ℕ} → refuses n us ≡ (a then b then gives values) → (rest : Answer) → (a then b then rest) ≡ refuses n us
@@ -24,8 +23,8 @@ refused_then (gives xs) (gives ys) values e rest = absurd (refuses_none e)
 refused_then (gives xs) (refuses m ys) values e rest = sym e
 refused_then (refuses m xs) b values e rest = sym e
 
-module _ {kind : Kind} {rule : Rule} {w h : ℕ} {g : List ℕ} {o : JobResult} (O : Opens kind rule w h g o) where
-  pub refused_solves : {r : Refusal} → o ≡ JobResult.Refused r → (t β : List ℕ) → Solves kind rule w h g t β (Solved.Refused r) t β
+module _ {kind : Kind} {rule : Rule} {w h : ℕ} {g : List ℕ} {o : Result Job Refusal} (O : Opens kind rule w h g o) where
+  pub refused_solves : {r : Refusal} → o ≡ Err r → (t β : List ℕ) → Solves kind rule w h g t β (Err r) t β
   unfolding open_rule solve_check
   refused_solves {r} e t β =
       let c : solve_check kind rule w h g t β ≡ refusal_says r =
@@ -36,13 +35,13 @@ module _ {kind : Kind} {rule : Rule} {w h : ℕ} {g : List ℕ} {o : JobResult} 
         };
       }
 
-  module _ {j : Job} (e : o ≡ JobResult.Ready j) where
+  module _ {j : Job} (e : o ≡ Ok j) where
     pub opened_ready : Ready j g
     opened_ready =
         let q = O.job j e in
         rw q (rw (e, q) at O)
 
-    pub run_solves : {t β t' β' : List ℕ} {r : Solved} → Runs j g t β r t' β' → Solves kind rule w h g t β r t' β'
+    pub run_solves : {t β t' β' : List ℕ} {r : Result (Option ℕ) Refusal} → Runs j g t β r t' β' → Solves kind rule w h g t β r t' β'
     unfolding solve_check
     run_solves R =
         let z = opening_shows kind rule w h g (sym O.says ∙ ap job_result_says e) in

@@ -1,5 +1,6 @@
 -- A turn of the loop is one working call more at the end of a list of calls: what it answers and leaves, by the third demand.
 -- Assumes nothing.
+use Rattle.std.specs.Prelude.{Err, None, Ok, Option, Some}
 use mathlib.Core.Path.{◌≡◌, refl, sym, ◌∙◌, ap, ap₂, subst}
 use mathlib.Core.Bool.{Bool, true, false}
 use mathlib.Core.List.{List, [], ◌∷◌, ◌++◌}
@@ -23,15 +24,14 @@ use Rattle.third_demand.specs.Demand.{TableBy, TableAfter, grid_kind, ThirdDeman
 use Rattle.job.specs.Calls.{Opens}
 use Rattle.job_kind.specs.declared.Kind.{Kind}
 use Rattle.job.specs.declared.Job.{Job}
-use Rattle.job.specs.declared.JobResult.{JobResult}
 use Rattle.third_demand.proofs.CheckLaws.{work_checked, lent_of}
 use Rattle.job_kind.proofs.Shapes.{shorter, entries_all}
 use Rattle.job.proofs.Fits.{Frame, opening_shows}
 use Rattle.third_demand.proofs.Third.{third_demand}
 use Rattle.runner.specs.Solving.{memory_check, solved_says, TableEnds, Ends, best, none, SolvesTo, Ready, Runs}
-use Rattle.runner.specs.declared.Solved.{Solved}
 use Rattle.runner.proofs.Appending.{run_append, summed_append, each_append, each_last}
 use Rattle.runner.proofs.Memory.{start_check, check_passes, Kept, works_kept}
+use Rattle.board.specs.declared.Refusal.{Refusal}
 
 -- ---- a list of calls
 -- the opened job with its memory
@@ -131,12 +131,12 @@ unfolding work_of
 refused_turn g n s e = rw e
 
 -- what is answered in the end is not "unfinished"
-solved_ends : (o : Solved) → solved_says o ≡ unfinished → ⊥
-solved_ends (Solved.Best score) e = let z : ◌≡◌ {A = ℕ} 0 1 = cc in omega arith
-solved_ends Solved.Infeasible e = let z : ◌≡◌ {A = ℕ} 0 1 = cc in omega arith
-solved_ends (Solved.Refused r) e = refuses_none e
+solved_ends : (o : Result (Option ℕ) Refusal) → solved_says o ≡ unfinished → ⊥
+solved_ends (Ok (Some score)) e = let z : ◌≡◌ {A = ℕ} 0 1 = cc in omega arith
+solved_ends (Ok None) e = let z : ◌≡◌ {A = ℕ} 0 1 = cc in omega arith
+solved_ends (Err r) e = refuses_none e
 
-module _ {kind : Kind} {rule : Rule} {w h : ℕ} {g : List ℕ} (O : Opens kind rule w h g (JobResult.Ready (start kind rule w h))) (t₀ β₀ : List ℕ) where
+module _ {kind : Kind} {rule : Rule} {w h : ℕ} {g : List ℕ} (O : Opens kind rule w h g (Ok (start kind rule w h))) (t₀ β₀ : List ℕ) where
   opened_frame : Frame kind rule w h
   opened_frame = (opening_shows kind rule w h g (sym O.says)).0
 
@@ -202,7 +202,7 @@ module _ {kind : Kind} {rule : Rule} {w h : ℕ} {g : List ℕ} (O : Opens kind 
 
       turns : Turned kind rule w h g t₀ β₀ n s (turn g n s)
       unfolding ThirdDemand
-      turns = go (third_demand kind rule w h g t₀ β₀ (JobResult.Ready (start kind rule w h)) (start kind rule w h) O refl longer longer_fair)
+      turns = go (third_demand kind rule w h g t₀ β₀ (Ok (start kind rule w h)) (start kind rule w h) O refl longer longer_fair)
         where
           high : 0 < h
           high = opened_frame.size.some_row
@@ -270,8 +270,8 @@ module _ {j : Job} {g : List ℕ} (R : Ready j g) where
   fresh : j ≡ start j.kind j.rule j.width j.height
   fresh = R.job j refl
 
-  opens : Opens j.kind j.rule j.width j.height g (JobResult.Ready (start j.kind j.rule j.width j.height))
-  opens = subst (λ (x : Job). Opens j.kind j.rule j.width j.height g (JobResult.Ready x)) fresh R
+  opens : Opens j.kind j.rule j.width j.height g (Ok (start j.kind j.rule j.width j.height))
+  opens = subst (λ (x : Job). Opens j.kind j.rule j.width j.height g (Ok x)) fresh R
 
   -- no call yet
   pub ready_begins : {t₀ β₀ : List ℕ} → Going j.kind j.rule j.width j.height g t₀ β₀ (lent_state j t₀ β₀)
@@ -282,5 +282,5 @@ module _ {j : Job} {g : List ℕ} (R : Ready j g) where
     pub turn_goes_on : 0 < n → r.answer ≡ unfinished → Goes j.kind j.rule j.width j.height g t₀ β₀ s r.state
     turn_goes_on some u = rw is (goes_on opens t₀ β₀ n s P some (rw is at u))
 
-    pub turn_ends : {o : Solved} → r.answer ≡ solved_says o → Runs j g t₀ β₀ o r.state.table r.state.board
+    pub turn_ends : {o : Result (Option ℕ) Refusal} → r.answer ≡ solved_says o → Runs j g t₀ β₀ o r.state.table r.state.board
     turn_ends {o} e = record { comes = rw (← e, is) (ends opens t₀ β₀ n s P (λ u. solved_ends o (sym e ∙ ap answer_of is ∙ u))) }

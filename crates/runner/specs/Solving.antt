@@ -1,6 +1,6 @@
 -- A job run to its end in one call: what it answers and leaves, for every input.
 -- Assumes nothing.
-use Rattle.std.specs.Prelude.{◌≡◌, Bool, true, false, List, ℕ}
+use Rattle.std.specs.Prelude.{◌≡◌, Bool, true, false, List, ℕ, Err, None, Ok, Option, Result, Some}
 use Rattle.board.specs.Answers.{Answer, refuses, passed, refusal_says, ◌then◌}
 use Rattle.board.specs.Checks.{length_check, table_size, table_check}
 use Rattle.rule.specs.Rule.{grid_check}
@@ -12,14 +12,13 @@ use Rattle.service.specs.Service.{finished, infeasible}
 use Rattle.third_demand.specs.Demand.{FilledTo, TwoLayersTo}
 use Rattle.job_kind.specs.declared.Kind.{Kind}
 use Rattle.job.specs.declared.Job.{Job}
-use Rattle.job.specs.declared.JobResult.{JobResult}
-use Rattle.runner.specs.declared.Solved.{Solved}
+use Rattle.board.specs.declared.Refusal.{Refusal}
 
 -- the paper's number and values of each answer: those of a job that ended
-abbrev pub solved_says : Solved → Answer
-solved_says (Solved.Best score) = finished score
-solved_says Solved.Infeasible = infeasible
-solved_says (Solved.Refused r) = refusal_says r
+abbrev pub solved_says : Result (Option ℕ) Refusal → Answer
+solved_says (Ok (Some score)) = finished score
+solved_says (Ok None) = infeasible
+solved_says (Err r) = refusal_says r
 
 -- the checks of the memory, as working makes them: 5, 6
 unfoldable pub memory_check : Kind → ℕ → ℕ → List ℕ → List ℕ → Answer
@@ -48,13 +47,13 @@ pub record SolvesTo (check : Answer) (kind : Kind) (rule : Rule) (w h : ℕ) (gi
   pub turned : (n : ℕ) (values : List ℕ) → check ≡ refuses n values → (says ≡ refuses n values) × (table' ≡ table) × (board' ≡ board)
   pub ended : check ≡ passed → Ends kind rule w h givens table board says table' board'
 
-pub record Solves (kind : Kind) (rule : Rule) (w h : ℕ) (givens table board : List ℕ) (r : Solved) (table' board' : List ℕ) : Type 0 where
+pub record Solves (kind : Kind) (rule : Rule) (w h : ℕ) (givens table board : List ℕ) (r : Result (Option ℕ) Refusal) (table' board' : List ℕ) : Type 0 where
   pub comes : SolvesTo (solve_check kind rule w h givens table board) kind rule w h givens table board (solved_says r) table' board'
 
 -- ---- the inner function
 -- a job that opening hands out for these givens
 abbrev pub Ready : Job → List ℕ → Type 0
-Ready j givens = Opens j.kind j.rule j.width j.height givens (JobResult.Ready j)
+Ready j givens = Opens j.kind j.rule j.width j.height givens (Ok j)
 
-pub record Runs (j : Job) (givens table board : List ℕ) (r : Solved) (table' board' : List ℕ) : Type 0 where
+pub record Runs (j : Job) (givens table board : List ℕ) (r : Result (Option ℕ) Refusal) (table' board' : List ℕ) : Type 0 where
   pub comes : SolvesTo (memory_check j.kind j.width j.height table board) j.kind j.rule j.width j.height givens table board (solved_says r) table' board'

@@ -10,10 +10,11 @@ use native.Mathlib.Numerals.{add-one}
 use native.Mathlib.Omega.{arith}
 use borrow.Author.Tests.{leb-true}
 use lib.Dec.{leb}
-use lib.ListN.{get_or}
+use lib.ListN.{get_or, take}
+use Rattle.std.proofs.lemmas.List.{get_or-take}
 use Rattle.board.specs.Boards.{Width}
 use Rattle.board.specs.Search.{first_not}
-use Rattle.board.proofs.Search.{Searched, all_pass, fails_at, searched, all_of, all_false}
+use Rattle.board.proofs.Search.{Searched, all_pass, searched, all_of, all_false}
 use Rattle.elimination.specs.Candidates.{Choice, nothing, chosen, scan, consider, none_found, best_found}
 use Rattle.elimination.specs.Candidates as Candidates
 use Rattle.elimination.specs.Kind.{Kind, offer, offer_if, offer_counted, choose}
@@ -31,13 +32,9 @@ use Rattle.score_table.proofs.Marks.{row_worth_le}
 use Rattle.score_table.specs.declared.Want.{Want}
 use Rattle.score_table.specs.declared.best.Best.{Best}
 
--- a column that was found is one of those that were tried
-pub found_within : (test : ℕ → Bool) (n j : ℕ) → Some j ≡ first_not test n → j < n
-found_within test n j = go (first_not test n) (searched test n)
-  where
-    go : (o : Option ℕ) → Searched test n o → Some j ≡ o → j < n
-    go None r e = absurd (let z : ◌≡◌ {A = ℕ} 0 1 = cc in omega arith)
-    go (Some i) (fails_at _ l f p) e = let q : i ≡ j = cc in rw q at l
+-- the first columns of all, and no more
+pub columns_taken : (w a b t : ℕ) (columns : List ℕ) → Columns w a b t columns → Columns w a b t (take (w + 2) columns)
+columns_taken w a b t columns C = record { at = λ j l. get_or-take _ _ _ _ l ∙ C.at j l }
 
 module _ (want : Want) (next : ℕ → ℕ) (w : ℕ) (givens : List ℕ) (at a b t : ℕ) (read : ℕ → ℕ) where
   abbrev pub G : Kind ℕ
@@ -111,8 +108,8 @@ module _ (want : Want) (next : ℕ → ℕ) (w : ℕ) (givens : List ℕ) (at a 
     test_turns : (j : ℕ) → j < w + 2 → test j ≡ turns c j
     test_turns j l = passes_by next w (row_for want w a) (row_for want w b) (row_for want w c) t j (small_row a la) (small_row b lb) (small_row c lc) lt l (C.at j l)
 
-    held_skip_at : (j m : ℕ) → j < w + 2 → test j ≡ false → m ≡ skip_to (digits_of want w) c j → m ≤ 2 ^ digits_of want w → Held m held
-    held_skip_at j m l e s u =
+    pub held_skip : (j m : ℕ) → j < w + 2 → test j ≡ false → m ≡ skip_to (digits_of want w) c j → m ≤ 2 ^ digits_of want w → Held m held
+    held_skip j m l e s u =
         let past : c < m = rw s (skip_past (digits_of want w) c j) in
         let q : c + (m - c) ≡ m = omega arith in
         let failing : (y : ℕ) → c ≤ y → y < c + (m - c) → offers y ≡ None =
@@ -125,13 +122,6 @@ module _ (want : Want) (next : ℕ → ℕ) (w : ℕ) (givens : List ℕ) (at a 
         ∙ sym (test_turns j l)
         ∙ e) in
         rw q at (held_run (m - c) H failing)
-
-    pub held_skip : (j m : ℕ) → Some j ≡ first_not test (w + 2) → m ≡ skip_to (digits_of want w) c j → m ≤ 2 ^ digits_of want w → Held m held
-    held_skip j m e = go (first_not test (w + 2)) (searched test (w + 2)) e
-      where
-        go : (o : Option ℕ) → Searched test (w + 2) o → Some j ≡ o → m ≡ skip_to (digits_of want w) c j → m ≤ 2 ^ digits_of want w → Held m held
-        go None r q = absurd (let z : ◌≡◌ {A = ℕ} 0 1 = cc in omega arith)
-        go (Some i) (fails_at _ l f p) q = let n : i ≡ j = cc in held_skip_at j m (rw n at l) (rw n at f)
 
     pub held_next_at : (r : Option Best) (read_c : ℕ) → None ≡ first_not test (w + 2) → read_c ≡ read c
         → choice_of r ≡ consider (compared want) c (offered want w givens at (row_for want w c) read_c) (choice_of held) → Held (c + 1) r

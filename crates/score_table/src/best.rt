@@ -88,15 +88,19 @@ pub fn best_row(
     let columns = rows::columns(w, rows::row_for(want, w, a), rows::row_for(want, w, b), t);
     let mut held = None;
     let mut c = 0;
-    // A row that fails in a column is skipped with all that have the same cells up to there, so this is no `for`.
-    while c < n {
+    // Document 01, "Forms by place", names this form. A row that fails in a column is skipped with all that have the same cells up to there.
+    'rows: loop {
+        if n <= c {
+            break held;
+        }
         let row = rows::row_for(want, w, c);
-        if let Some(j) = rows::first_failing(grid.next, w, &columns, row) {
-            c = next_row(bits, c, j);
-            continue;
+        for (j, column) in columns[..w + 2].iter().enumerate() {
+            if !rows::passes(grid.next, w, *column, row, j) {
+                c = next_row(bits, c, j);
+                continue 'rows;
+            }
         }
         held = consider(want, held, c, offer(grid, at, row, table[first + c]));
         c += 1;
     }
-    held
 }

@@ -70,30 +70,12 @@ pub fn columns(w: usize, a: usize, b: usize, t: usize) -> [usize; COLUMNS]
 }
 
 // Whether with c below it the cell of b becomes that of t, by the column of both.
-fn passes(next: &[u8; 512], w: usize, column: usize, c: usize, j: usize) -> bool
+pub fn passes(next: &[u8; 512], w: usize, column: usize, c: usize, j: usize) -> bool
     requires { (w ≤ max_mirror_width) × (column < 1024) × (c < 2 ^ w) × (j ≤ w + 1) }
     ensures { result ≡ passes (entry_of next.now) w column c j }
 {
     let p = column + window_at(w, c, j);
     next[p % 512] == (p / 512) as u8
-}
-
-// The first column in which with c below it the cell of b doesn't become that of t, by the columns of both.
-pub fn first_failing(
-    next: &[u8; 512],
-    w: usize,
-    columns: &[usize; COLUMNS],
-    c: usize,
-) -> Option<usize>
-    requires { (w ≤ max_mirror_width) × (c < 2 ^ w) × ((j : ℕ) → j < w + 2 → get_or columns.now j 0 < 1024) }
-    ensures { result ≡ first_not (λ j. passes (entry_of next.now) w (get_or columns.now j 0) c j) (w + 2) }
-{
-    for (j, column) in columns[..w + 2].iter().enumerate() {
-        if !passes(next, w, *column, c, j) {
-            return Some(j);
-        }
-    }
-    None
 }
 
 // Whether rows a, b, c step to row t in the middle, and the ring beside it stays dead; with t = b, whether they agree.

@@ -3,7 +3,7 @@
 use mathlib.Core.Path.{◌≡◌, refl, sym, ◌∙◌, ap, ap₂, subst}
 use mathlib.Core.Bool.{true}
 use mathlib.Core.List.{List, []}
-use Rattle.std.specs.Prelude.{None}
+use Rattle.std.specs.Prelude.{None, Option, Some}
 use Prim.Native.Nat.{ℕ, zero, suc, ◌+◌, ◌*◌, ◌-◌, ◌^◌, ◌≤◌, ◌<◌}
 use native.Mathlib.Omega.{arith}
 use Rattle.board.specs.Answers.{Answer, refuses}
@@ -19,9 +19,8 @@ use Rattle.score_table.proofs.Marks.{row_worth_le}
 use Rattle.job_kind.specs.Kinds.{has_target, kind_digits, shape_of}
 use Rattle.job.specs.Jobs.{above_of, last_of, mark_of, live_of, job_fits, task_due, job_with, after_unit, after_fills}
 use Rattle.job.specs.declared.Job.{Job}
-use Rattle.job.specs.declared.Chosen.{Chosen}
 use Rattle.job_kind.proofs.Shapes.{shape_rounds}
-use Rattle.job.proofs.Next.{fits_until, due_none, entries_none, entries_here, entries_more, after_run, after_row_lem, after_none_lem}
+use Rattle.job.proofs.Next.{fits_rows, fits_until, due_none, entries_none, entries_here, entries_more, after_run, after_row_lem, after_none_lem}
 use Rattle.service.specs.Service.{next, spoiled, works_on, stage_says}
 use Rattle.service.specs.Units.{here, row_step, mark_step, unit_by}
 use Rattle.service.proofs.Calls.{works_none, works_next, works_still, works_spoiled}
@@ -29,17 +28,25 @@ use Rattle.board_rows.specs.Rows.{put_row}
 use Rattle.third_demand.specs.Units.{State, want_by, grid_rows, setup_of, unit_of, grid}
 use Rattle.third_demand.specs.Lent.{lent_state, Lent, Chooses}
 use Rattle.solver.specs.Inner.{step_of, Moves}
-use Rattle.solver.specs.declared.choosing.Stepped.{Stepped}
 use Rattle.elimination.proofs.Candidates.{RowBelow}
 use Rattle.elimination.proofs.Kind.{choose_below}
 use Rattle.elimination.proofs.Table.{fill_none, fill_more}
 use Rattle.elimination.proofs.Rounds.{fill_run}
-use Rattle.third_demand.proofs.UnitLaws.{unit_fits, unit_lent, row_in}
+use Rattle.third_demand.proofs.UnitLaws.{unit_fits, unit_lent, row_in, lent_memory}
+use Rattle.third_demand.proofs.Agreement.{picked}
+use Rattle.rule.specs.Rule.{Holds, next_under, entry_of}
+use Rattle.score_table.specs.Calls.{row_picked, picked_of}
+use Rattle.score_table.proofs.Calls.{picked_nothing, picked_row}
+use Rattle.board.specs.declared.ChosenRow.{ChosenRow}
+use Rattle.board_rows.specs.Calls.{row_writes}
+use Rattle.board_rows.proofs.Writing.{writes_inside}
+use Rattle.score_table.proofs.EntryLaws.{row_room}
+use lib.ListN.{length}
 
-next_not_spoiled : {j : Job} {A : Type 0} → Stepped.Next j ≡ Stepped.Spoiled → A
+next_not_spoiled : {j : Job} {A : Type 0} → Some j ≡ None → A
 next_not_spoiled e = absurd (let z : ◌≡◌ {A = ℕ} 0 1 = cc in omega arith)
 
-moved_on : {j j' : Job} {g t β t' β' : List ℕ} → next (lent_state j' t' β') ≡ unit_of g (lent_state j t β) → Moves j g t β (Stepped.Next j') t' β'
+moved_on : {j j' : Job} {g t β t' β' : List ℕ} → next (lent_state j' t' β') ≡ unit_of g (lent_state j t β) → Moves j g t β (Some j') t' β'
 moved_on e = record { step = e; spoiled = next_not_spoiled }
 
 -- ---- a unit, by its task
@@ -97,12 +104,16 @@ module _ (j : Job) (r source : ℕ) (g t β : List ℕ) (C : Chooses j r source 
       choose (grid_rows j.kind j.rule j.width j.height g) (j.height - suc r) (above_of j.stage) (last_of j.stage)
       (reads (grid_rows j.kind j.rule j.width j.height g) t source (last_of j.stage))
 
+  -- the row's cells are within the board
+  cells_room : suc r * j.width ≤ length β
+  cells_room = omega (arith, C.lent.cells, row_room j.width j.height r (row_in C).inside)
+
   comes : (o : Choice ℕ) → choice ≡ o → row_step (setup_of j.kind j.rule j.width j.height g) r (lent_state j t β) o ≡ unit_of g (lent_state j t β)
   comes o f =
       sym (unit_choose j g t β r source C.running C.task ∙ ap (row_step (setup_of j.kind j.rule j.width j.height g) r (lent_state j t β)) f)
 
-  pub moves_row : (c n : ℕ) → choice ≡ chosen c n → (j' : Job) → j' ≡ after_unit j (Chosen.Row c (row_worth j.width marks (r * j.width) (row_is c)))
-      → Moves j g t β (Stepped.Next j') t (put_row (kind_digits j.kind j.width) j.width r c β)
+  moves_row : (c n : ℕ) → choice ≡ chosen c n → (j' : Job) → j' ≡ after_unit j (Some (record { row = c; worth = row_worth j.width marks (r * j.width) (row_is c) }))
+      → Moves j g t β (Some j') t (put_row (kind_digits j.kind j.width) j.width r c β)
   moves_row c n f j' q =
       let live = live_of j.stage in
       let l : c < 2 ^ kind_digits j.kind j.width =
@@ -114,7 +125,7 @@ module _ (j : Job) (r source : ℕ) (g t β : List ℕ) (C : Chooses j r source 
       ∙ ap (λ (k : ℕ). job_with j (after_row j.height r c (row_worth j.width marks (k * j.width) (row_is c) + live) (here j))) (sym d) in
       moved_on (ap (λ (i : Job). next (lent_state i t (put_row (kind_digits j.kind j.width) j.width r c β))) same ∙ comes (chosen c n) f)
 
-  pub moves_none : r ≡ 0 → choice ≡ nothing → (j' : Job) → j' ≡ after_unit j Chosen.Nothing → Moves j g t β (Stepped.Next j') t β
+  moves_none : r ≡ 0 → choice ≡ nothing → (j' : Job) → j' ≡ after_unit j None → Moves j g t β (Some j') t β
   moves_none z f j' q =
       let p : (shape_of j.kind j.width j.height).plan j.units ≡ row 0 source = C.task ∙ ap (λ (k : ℕ). row k source) z in
       moved_on (rw (q, after_none_lem j C.lent.taken C.running p) (go r z ∙ comes nothing f))
@@ -124,12 +135,34 @@ module _ (j : Job) (r source : ℕ) (g t β : List ℕ) (C : Chooses j r source 
       go zero p = refl
       go (suc k) p = absurd (omega arith)
 
-  pub moves_spoiled : (r ≡ 0 → ⊥) → choice ≡ nothing → Moves j g t β Stepped.Spoiled t β
+  moves_spoiled : (r ≡ 0 → ⊥) → choice ≡ nothing → Moves j g t β None t β
   moves_spoiled n f = record { step = go r n ∙ comes nothing f; spoiled = λ x. (refl, refl) }
     where
       go : (k : ℕ) → (k ≡ 0 → ⊥) → spoiled ≡ row_step (setup_of j.kind j.rule j.width j.height g) k (lent_state j t β) nothing
       go zero p = absurd (p refl)
       go (suc k) p = refl
+
+  -- ---- the same, by what `choose_row` answers
+  module _ {o : Option ChosenRow} (table : List ℕ) (H : Holds (next_under j.rule) table)
+      (picks : o ≡ picked_of (want_by j.kind) j.width g r (row_picked (want_by j.kind) (entry_of table) j.width j.height r source (above_of j.stage) (last_of j.stage) g t)) where
+    told : o ≡ picked_of (want_by j.kind) j.width g r choice
+    told =
+        let F = fits_rows j C.lent.taken in
+        let R = row_in C in
+        picks ∙ ap (picked_of (want_by j.kind) j.width g r) (picked _ _ H j.kind _ _ _ _ (lent_memory C.lent) _ _ _ _ R.inside R.layer F.0 F.1)
+
+    pub spoils : o ≡ None → (r ≡ 0 → ⊥) → Moves j g t β None t β
+    spoils e n = moves_spoiled n (picked_nothing (want_by j.kind) j.width g r choice (sym e ∙ told))
+
+    pub ends_by_none : o ≡ None → r ≡ 0 → (j' : Job) → j' ≡ after_unit j o → Moves j g t β (Some j') t β
+    ends_by_none e z j' q = moves_none z (picked_nothing (want_by j.kind) j.width g r choice (sym e ∙ told)) j' (q ∙ ap (after_unit j) e)
+
+    pub goes_on_by_row : (c : ChosenRow) → o ≡ Some c → (j' : Job) → j' ≡ after_unit j (Some c)
+        → (β' : List ℕ) → β' ≡ row_writes (kind_digits j.kind j.width) j.width r c.row β → Moves j g t β (Some j') t β'
+    goes_on_by_row c e j' q β' b =
+        let P = picked_row (want_by j.kind) j.width g r choice c (sym e ∙ told) in
+        let same : c ≡ record { row = c.row; worth = row_worth j.width marks (r * j.width) (row_is c.row) } = rw (← P.worth) refl in
+        rw (b ∙ writes_inside _ _ _ _ _ cells_room) (moves_row c.row P.sum P.is j' (q ∙ ap (λ (x : ChosenRow). after_unit j (Some x)) same))
 
 -- ---- a call's units
 -- where a call goes on from a later state: what is left comes to the same, and the checks would still pass
@@ -179,23 +212,23 @@ module _ (j : Job) (g t β : List ℕ) (L : Lent j g t β) (m : mark_of j.stage 
 
 module _ (g : List ℕ) where
   -- after a row, and where none can be chosen
-  module _ (j : Job) (t β : List ℕ) (r : Stepped) (t' β' : List ℕ) (M : Moves j g t β r t' β') where
-    pub onward_moved : (j' : Job) → r ≡ Stepped.Next j' → Lent j g t β → (n : ℕ) → (n ≡ 0 → ⊥) → Onward g j t β n j' t' β' (n - 1)
+  module _ (j : Job) (t β : List ℕ) (r : Option Job) (t' β' : List ℕ) (M : Moves j g t β r t' β') where
+    pub onward_moved : (j' : Job) → r ≡ Some j' → Lent j g t β → (n : ℕ) → (n ≡ 0 → ⊥) → Onward g j t β n j' t' β' (n - 1)
     onward_moved j' e L n l =
         let k : n ≡ suc (n - 1) = omega (arith, l) in
         let s = lent_state j t β in
         let s' = lent_state j' t' β' in
-        let u : unit_of g s ≡ next s' = sym (subst (λ (o : Stepped). step_of j o t' β' ≡ unit_of g s) e M.step) in record {
+        let u : unit_of g s ≡ next s' = sym (subst (λ (o : Option Job). step_of j o t' β' ≡ unit_of g s) e M.step) in record {
           works = sym (ap (λ (x : ℕ). works_on grid g x s) k ∙ works_next grid g (n - 1) s s' u);
           lent = unit_lent g s s' L u;
           rule = (unit_fits g s s' L.taken u).rule;
         }
 
-    pub works_turned : r ≡ Stepped.Spoiled → (n : ℕ) → (n ≡ 0 → ⊥) → record { answer = refuses 9 []; state = lent_state j t' β' } ≡ works_on grid g n (lent_state j t β)
+    pub works_turned : r ≡ None → (n : ℕ) → (n ≡ 0 → ⊥) → record { answer = refuses 9 []; state = lent_state j t' β' } ≡ works_on grid g n (lent_state j t β)
     works_turned e zero l = absurd (l refl)
     works_turned e (suc n) l =
         let x = M.spoiled e in
-        rw (x.0, x.1) (sym (works_spoiled grid g n (lent_state j t β) (sym (subst (λ (o : Stepped). step_of j o t' β' ≡ unit_of g (lent_state j t β)) e M.step))))
+        rw (x.0, x.1) (sym (works_spoiled grid g n (lent_state j t β) (sym (subst (λ (o : Option Job). step_of j o t' β' ≡ unit_of g (lent_state j t β)) e M.step))))
 
   -- the end of a call
   pub works_spent : (j : Job) (t β : List ℕ) (x : Answer) → x ≡ stage_says j.stage → (n : ℕ) → n ≡ 0 → record { answer = x; state = lent_state j t β } ≡ works_on grid g n (lent_state j t β)

@@ -11,9 +11,10 @@ ghost use Rattle.third_demand.specs.Lent.{Lent, lent_state};
 use crate::{Status, Worked, choosing, wants};
 use board::Refusal;
 use job::{Job, Stage, Task};
-use score_table::{Entries, Grid};
+use score_table::Entries;
 
 // The checks of a working call: 7 as pausing, then 3, 4, 14, 15, 5, 6; with a target 3, 4, 5, 6.
+#[tactic(auto, unfolding(service::specs::Service::work_check, third_demand::specs::Units::lent_check, job::specs::Jobs::pause_rule))]
 pub fn check_work(job: Job, givens: &[u8], table: &[u16], board: &[u8]) -> Result<(), Refusal>
     ensures { check_says result ≡ work_check grid job givens.now table.now board.now }
 {
@@ -42,6 +43,7 @@ fn status_of(stage: Stage) -> Status
 
 // The entries to fill at once, from one of a layer on, where a row's number has so many binary digits: what the layer has left or the allowance,
 // whichever is less.
+#[tactic(auto, using(board::proofs::Powers::table_within, board::proofs::Powers::table_one))]
 fn entries_now(digits: usize, entry: usize, left: usize) -> usize
     requires { (digits ≤ max_width) × (entry < 4 ^ digits) }
     ensures { result ≡ min (4 ^ digits - entry) left }
@@ -62,23 +64,18 @@ pub fn work_on(
 {
     let rule = start.rule;
     let next = rule::table::of(rule);
-    let grid = Grid {
-        next: &next,
-        want: wants::want_by(start.kind),
-        width: start.width,
-        height: start.height,
-        givens,
-    };
     let mut job = start;
     let mut left = allowance as usize;
     while left != 0 {
         match job.task() {
-            Some(Task::Fill {
-                after,
-                source,
-                target,
-                entry,
-            }) => {
+            Some(
+                Task::Fill {
+                    after,
+                    source,
+                    target,
+                    entry,
+                },
+            ) => {
                 let kind = job.kind;
                 let count = entries_now(kind.row_digits(job.width), entry, left);
                 let entries = Entries {
@@ -88,12 +85,13 @@ pub fn work_on(
                     from: entry,
                     count,
                 };
-                layers::fill(grid, entries, table);
+                layers::fill(wants::grid_of(&next, job, givens), entries, table);
                 job = job.after_entries(count);
                 left -= count;
             }
             Some(Task::Choose { row, source }) => {
-                let Some(next_job) = choosing::choose(grid, job, row, source, table, board) else {
+                let Some(next_job) = choosing::choose(&next, job, row, source, givens, table, board)
+                else {
                     return Worked {
                         job, // before the row
                         status: Err(Refusal::SpoiledTable),

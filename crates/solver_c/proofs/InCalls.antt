@@ -2,7 +2,8 @@
 -- Assumes nothing.
 use mathlib.Core.Path.{◌≡◌, refl, sym, ◌∙◌, ap}
 use mathlib.Core.List.{List}
-use Rattle.std.specs.Prelude.{None, Some}
+use Rattle.std.specs.Prelude as Std
+use Rattle.std.specs.Prelude.{None, Some, Err, Ok}
 use Prim.Native.Nat.{ℕ, ◌+◌}
 use native.Mathlib.Numerals.{add-one}
 use Rattle.board.specs.declared.Refusal.{Refusal}
@@ -12,12 +13,12 @@ use Rattle.job.specs.Jobs.{start, open_rule, job_result_says}
 use Rattle.job.specs.Calls.{Opens}
 use Rattle.job_kind.specs.declared.Kind.{Kind}
 use Rattle.job.specs.declared.Job.{Job}
-use Rattle.job.specs.declared.JobResult.{JobResult}
 use Rattle.service.specs.Service.{unfinished, work_of}
 use Rattle.third_demand.specs.Units.{State, grid}
 use Rattle.solver.specs.Calls.{Result}
 use Rattle.third_demand.specs.Lent.{lent_state}
-use Rattle.solver_c.specs.InCalls.{calls_of, code_of, kind_at, WorksInCalls, MakesCalls}
+use Rattle.job_kind.specs.Kinds.{kind_at}
+use Rattle.solver_c.specs.InCalls.{calls_of, code_of, WorksInCalls, MakesCalls}
 
 -- ---- calls
 module _ (g : List ℕ) (allowance : ℕ) (s : State) where
@@ -42,14 +43,14 @@ calls_made is all e = record { is = rw (e, is, all) }
 pub no_kind : {n w h : ℕ} {g : List ℕ} {allowance calls : ℕ} → kind_at n ≡ None → (t β : List ℕ) → WorksInCalls n w h g t β allowance calls 2003 t β
 no_kind e t β = record { is = rw e }
 
-module _ {kind : Kind} {rule : Rule} {w h : ℕ} {g : List ℕ} {o : JobResult} (O : Opens kind rule w h g o) (ruled : rule ≡ conway_rule) where
+module _ {kind : Kind} {rule : Rule} {w h : ℕ} {g : List ℕ} {o : Std.Result Job Refusal} (O : Opens kind rule w h g o) (ruled : rule ≡ conway_rule) where
   answered : open_rule kind conway_rule w h g ≡ job_result_says o
   answered = rw (← ruled) (sym O.says)
 
   module _ {n allowance calls : ℕ} (e : kind_at n ≡ Some kind) where
-    pub opening_refuses : {r : Refusal} → o ≡ JobResult.Refused r → (t β : List ℕ) → WorksInCalls n w h g t β allowance calls 2003 t β
+    pub opening_refuses : {r : Refusal} → o ≡ Err r → (t β : List ℕ) → WorksInCalls n w h g t β allowance calls 2003 t β
     opening_refuses q t β = record { is = rw (e, answered, q) }
 
-    pub opening_takes : {j : Job} → o ≡ JobResult.Ready j → {t β t' β' : List ℕ} {r : ℕ} → MakesCalls j g t β allowance calls r t' β'
+    pub opening_takes : {j : Job} → o ≡ Ok j → {t β t' β' : List ℕ} {r : ℕ} → MakesCalls j g t β allowance calls r t' β'
         → WorksInCalls n w h g t β allowance calls r t' β'
     opening_takes {j} q C = record { is = rw (e, answered, q) (rw (O.job j q ∙ ap (λ (x : Rule). start kind x w h) ruled) at C.is) }

@@ -3,7 +3,7 @@
 use Rattle.std.specs.Prelude.{◌≡◌, cond, List, ℕ, zero, suc, eqb, get_or, Option, None, Some}
 use Rattle.board.specs.Answers.{Answer, gives, refuses}
 use Rattle.rule.specs.Rule.{conway_rule}
-use Rattle.job_kind.specs.Kinds.{kind_number}
+use Rattle.job_kind.specs.Kinds.{kind_at}
 use Rattle.job.specs.Jobs.{open_rule, start}
 use Rattle.job_kind.specs.declared.Kind.{Kind}
 use Rattle.job.specs.declared.Job.{Job}
@@ -25,13 +25,6 @@ calls_of givens allowance (suc n) s =
 abbrev pub code_of : Answer → ℕ
 code_of (gives values) = cond (eqb (get_or values 0 0) 1) (get_or values 1 0) (cond (eqb (get_or values 0 0) 2) 2002 2001)
 code_of (refuses n values) = 2003
-
--- the kind with a number
-abbrev pub kind_at : ℕ → Option Kind
-kind_at n =
-    cond (eqb n (kind_number Kind.Ordinary)) (Some Kind.Ordinary)
-    (cond (eqb n (kind_number Kind.TwoLayers)) (Some Kind.TwoLayers)
-    (cond (eqb n (kind_number Kind.Mirror)) (Some Kind.Mirror) (cond (eqb n (kind_number Kind.Predecessor)) (Some Kind.Predecessor) None)))
 
 -- ---- the function
 -- the answer, and the table and the board afterwards

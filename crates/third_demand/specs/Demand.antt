@@ -1,7 +1,7 @@
 -- THE THIRD DEMAND of a grid: what its job does on the way and comes to. Lists of calls, and the claim for any kind of job, are `Demand` of
 -- crate `service`.
 -- Assumes nothing.
-use Rattle.std.specs.Prelude.{◌≡◌, Bool, true, false, cond, List, ℕ, ◌+◌, ◌-◌, ◌*◌, ◌/◌, ◌%◌, ◌^◌, ◌≤◌, ◌<◌, eqb, length, get_or}
+use Rattle.std.specs.Prelude.{◌≡◌, Bool, true, false, cond, List, ℕ, ◌+◌, ◌-◌, ◌*◌, ◌/◌, ◌%◌, ◌^◌, ◌≤◌, ◌<◌, eqb, length, get_or, Ok, Result}
 use Rattle.elimination.specs.Kind.{right_entry}
 use Rattle.elimination.specs.Shape.{rows_chosen, entries_filled}
 use Rattle.elimination.specs.Places.{writes, Stands}
@@ -15,10 +15,10 @@ use Rattle.job.specs.Jobs.{above_of, last_of, live_of, mark_of}
 use Rattle.job.specs.Calls.{Opens}
 use Rattle.job_kind.specs.declared.Kind.{Kind}
 use Rattle.job.specs.declared.Job.{Job}
-use Rattle.job.specs.declared.JobResult.{JobResult}
 use Rattle.service.specs.Demand.{Demand}
 use Rattle.service.specs.JobKinds.{JobKind, aim_of}
 use Rattle.third_demand.specs.Units.{State, grid_rows, setup_of, grid}
+use Rattle.board.specs.declared.Refusal.{Refusal}
 
 -- a job of this kind, rule and grid
 pub record Of (kind : Kind) (rule : Rule) (w h : ℕ) (j : Job) : Type 0 where
@@ -102,5 +102,5 @@ grid_kind kind rule w h givens = record {
 -- every kind, rule, width, height and givens or target that opening takes, every table and board contents and lengths, every list of calls
 unfoldable pub ThirdDemand : Type 0
 ThirdDemand =
-    (kind : Kind) (rule : Rule) (w h : ℕ) (givens table board : List ℕ) (r : JobResult) (j : Job) → Opens kind rule w h givens r → r ≡ JobResult.Ready j
+    (kind : Kind) (rule : Rule) (w h : ℕ) (givens table board : List ℕ) (r : Result Job Refusal) (j : Job) → Opens kind rule w h givens r → r ≡ Ok j
     → Demand grid (aim_of (grid_kind kind rule w h givens)) givens (record { job = j; table = table; board = board })

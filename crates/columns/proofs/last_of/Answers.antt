@@ -1,23 +1,20 @@
--- `columns::last_of` meets its contract.
+-- `columns::last_of` meets its contract: a turn writes eight lanes.
 -- Assumes nothing.
-use mathlib.Core.Path.{◌≡◌}
-use native.Mathlib.Omega.{arith}
-use Rattle.column_elimination.proofs.Writing.{wrote_none}
-use Rattle.column_elimination.proofs.Turns.{last_turn}
+use Prim.Native.Nat.{ℕ, ◌+◌, ◌*◌, ◌/◌, ◌%◌}
 use borrow.Author.Rules.{rules}
-use Rattle.columns.proofs.Calls.{windows_are, windows_small}
+use lib.Bits.{bit_and}
+use lib.ListN.{get_or}
+use Rattle.std.proofs.Common.{tests}
+use Rattle.column_elimination.proofs.Turns.{last_turn}
 use Rattle.columns.proofs.last_of.Goals as goal
-
-pub loop-t-init : goal.loop-t-init
-loop-t-init c = (search rules, wrote_none _ _ _)
-
-pub last_eight-requires : goal.last_eight-requires
-last_eight-requires c =
-    (omega arith, omega arith, omega arith, windows_small _ _ _ c.windows.ensures, windows_small _ _ _ c.windows-2.ensures)
 
 pub loop-t-preserved : goal.loop-t-preserved
 loop-t-preserved c =
-    (search rules, last_turn c.args.keep.now _ _ _ c.windows.new.at c.windows-2.new.at (windows_are _ _ _ c.windows.ensures) (windows_are _ _ _ c.windows-2.ensures) c.loop-t.invariant.1 c.last_eight.ensures)
-
-pub returns : goal.returns
-returns c = let e : c.loop-t.t ≡ 16 = omega arith in rw e at c.loop-t.invariant.1
+    let t = c.loop-t.t in
+    let keep = c.args.keep.now in
+    let at = c.windows-at.result in
+    let past = c.windows-past.result in
+    last_turn keep _ _ _ at past c.windows-at.ensures.places c.windows-past.ensures.places c.loop-t.invariant
+    (c.eight.ensures
+    (λ (l : ℕ). bit_and (get_or keep (128 * (t / 4) + 2 * (t % 4) + get_or at l 0) 0) (get_or keep (256 * (t / 4 % 2) + 4 * (t % 2) + get_or past l 0) 0))
+    (λ l v h k. search (rules, tests)))

@@ -1,17 +1,16 @@
--- `columns::part` meets its contract.
+-- `columns::part` meets its contract: a turn writes eight lanes.
 -- Assumes nothing.
-use mathlib.Core.Path.{◌≡◌}
-use native.Mathlib.Omega.{arith}
-use Rattle.column_elimination.proofs.Writing.{wrote_none}
-use Rattle.column_elimination.proofs.Turns.{part_turn}
+use Prim.Native.Nat.{◌+◌, ◌*◌}
 use borrow.Author.Rules.{rules}
+use Rattle.std.proofs.Common.{tests}
+use Rattle.column_elimination.specs.Columns.{mix}
+use Rattle.column_elimination.proofs.Turns.{part_turn}
 use Rattle.columns.proofs.part.Goals as goal
 
-pub loop-x-init : goal.loop-x-init
-loop-x-init c = (search rules, wrote_none _ _ _)
-
 pub loop-x-preserved : goal.loop-x-preserved
-loop-x-preserved c = (search rules, part_turn _ _ _ _ _ _ _ c.loop-x.invariant.1 c.lanes.ensures)
-
-pub returns : goal.returns
-returns c = let e : c.loop-x.x ≡ c.args.n = omega arith in rw e at c.loop-x.invariant.1
+unfolding mix
+loop-x-preserved c =
+    let g = c.args in
+    let x = c.loop-x.x in
+    part_turn g.src.now g.masks.now g.i g.k g.m g.o x c.loop-x.invariant
+    (c.eight.ensures (λ y. mix g.src.now g.masks.now (g.i + 8 * x + y) (g.k + 8 * x + y) g.m y) (λ l v h q. search (rules, tests)))

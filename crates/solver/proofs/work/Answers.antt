@@ -8,12 +8,12 @@ use Rattle.third_demand.proofs.CheckLaws.{lent_of}
 use Rattle.solver.proofs.work.Goals as goal
 
 pub work_on-requires : goal.work_on-requires
-work_on-requires c = lent_of _ _ _ _ (let_through c.check_work.ensures c.in-Passed.is)
+work_on-requires c = lent_of _ _ _ _ (let_through c.check_work.ensures c.in-Ok.is)
 
-pub returns-in-Refused : goal.returns-in-Refused
+pub returns-in-Err : goal.returns-in-Err
 unfolding work_of
-returns-in-Refused c = record { is = rw (sym c.check_work.ensures ∙ ap check_says c.in-Refused.is) }
+returns-in-Err c = record { is = rw (sym c.check_work.ensures ∙ ap check_says c.in-Err.is) }
 
-pub returns-in-Passed : goal.returns-in-Passed
+pub returns-in-Ok : goal.returns-in-Ok
 unfolding work_of
-returns-in-Passed c = record { is = rw (let_through c.check_work.ensures c.in-Passed.is) c.work_on.ensures }
+returns-in-Ok c = record { is = rw (let_through c.check_work.ensures c.in-Ok.is) c.work_on.ensures }

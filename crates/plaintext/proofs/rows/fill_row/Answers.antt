@@ -1,36 +1,24 @@
--- `plaintext::rows::fill_row` meets its contract. The loop's invariant: the first k cells of the filled row are written over the cells. The
--- measure: the columns left.
+-- `plaintext::rows::fill_row` meets its contract: each letter is one more cell of the row, and the dead cells fill it.
 -- Assumes nothing.
-use mathlib.Core.Path.{◌≡◌, refl, sym, ◌∙◌}
+use mathlib.Core.Path.{◌≡◌, sym, ◌∙◌}
 use mathlib.Core.List.{map}
 use native.Mathlib.Omega.{arith}
-use borrow.Author.Rules.{rules}
-use lib.ListN.{length-set, get_or}
+use lib.ListN.{length, get_or, length-map, get_or-map}
 use Rattle.writer.specs.Letters.{letter_cell}
-use Rattle.writer.proofs.Over.{over_more, over_all}
-use Rattle.plaintext.specs.Reading.{filled}
-use Rattle.plaintext.proofs.RowCells.{filled_letters_long, filled_cell, filled_dead}
+use Rattle.writer.proofs.Over.{over_more}
+use Rattle.plaintext.proofs.RowCells.{filled_over}
 use Rattle.plaintext.proofs.rows.fill_row.Goals as goal
-use Rattle.plaintext.proofs.rows.fill_row.Goals.{then-k-row, else-k-row}
-
-pub loop-k-init : goal.loop-k-init
-loop-k-init c = (search rules, refl, refl)
 
 pub loop-k-preserved : goal.loop-k-preserved
 loop-k-preserved c =
-    let a = c.args in
+    let r = map letter_cell c.args.row.now in
     let l = c.loop-k in
-    let n = filled_letters_long a.w a.row.now (omega arith) in
-    let stored : c.if-k-row.cells ≡ get_or (filled a.w (map letter_cell a.row.now)) l.k 0
-    = elim c.if-k-row.branch [
-      | then-k-row v ↦ v.cells-is ∙ v.cell.ensures ∙ sym (filled_cell a.w a.row.now l.k v.if-k-row.true)
-      | else-k-row v ↦ v.cells-is ∙ sym (filled_dead a.w a.row.now l.k v.if-k-row.false (omega arith))
-    ] in
-    (search rules, rw (l.invariant.1, stored) (over_more _ _ l.k (rw n (omega arith)) (omega arith)), rw length-set l.invariant.2)
+    let n : length r ≡ length c.args.row.now = length-map c.args.row.now letter_cell in
+    let stored : c.cell.result ≡ get_or r l.k 0 = c.cell.ensures ∙ sym (get_or-map letter_cell c.args.row.now l.k 0) in
+    rw (l.invariant, stored) (over_more _ _ l.k (omega arith) (omega arith))
 
 pub returns : goal.returns
 returns c =
     let a = c.args in
-    let e : c.loop-k.k ≡ a.w = omega arith in
-    let n = filled_letters_long a.w a.row.now (omega arith) in
-    rw e at c.loop-k.invariant.1 ∙ over_all _ _ a.w (rw n (omega arith))
+    let e : c.loop-k.k ≡ length a.row.now = omega arith in
+    filled_over a.w (length a.row.now) _ _ _ _ (length-map a.row.now letter_cell) (omega arith) (omega arith) (rw e at c.loop-k.invariant) (c.fill.ensures.after (λ y h. h))

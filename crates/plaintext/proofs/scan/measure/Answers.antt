@@ -1,41 +1,33 @@
--- `plaintext::scan::measure` meets its contract. The loop's invariant: the lines passed, and those left, make the text. The measure: the
--- bytes left.
+-- `plaintext::scan::measure` meets its contract: each line is the first of those left.
 -- Assumes nothing.
-use mathlib.Core.Path.{sym, ◌∙◌}
 use native.Mathlib.Omega.{arith}
-use Rattle.plaintext.proofs.Scans.{passed_none, passed_comment, passed_row, passed_bad, passed_end}
+use Rattle.std.proofs.lemmas.Result.{err_from_is_err_and}
+use Rattle.plaintext.proofs.Lines.{judged_few}
+use Rattle.plaintext.proofs.Scans.{told_none, passed_none, passed_comment, passed_row, passed_bad, passed_end}
 use Rattle.plaintext.proofs.scan.measure.Goals as goal
 
-pub loop-next-init : goal.loop-next-init
-loop-next-init c = passed_none _ _
-
-pub overflow_add-next : goal.overflow_add-next
-overflow_add-next c = omega (arith, c.line_end-end.ensures.inside)
-
-pub classify-requires : goal.classify-requires
-classify-requires c = (c.line_end-end.ensures.forward, c.line_end-end.ensures.inside)
-
-pub loop-next-smaller-in-Comment : goal.loop-next-smaller-in-Comment
-loop-next-smaller-in-Comment c = omega (arith, c.line_end-end.ensures.forward)
-
-pub loop-next-preserved-in-Comment : goal.loop-next-preserved-in-Comment
-loop-next-preserved-in-Comment c =
-    passed_comment _ _ _ _ _ c.loop-next.invariant _ c.line_end-end.ensures (sym c.in-Comment.is ∙ c.classify.ensures)
+pub loop-line-init : goal.loop-line-init
+loop-line-init c =
+    let a = c.args in
+    (tt, tt, rw (c.into_iter-line-iterator.ensures.into_iter_gives, c.new-line-items.ensures) (passed_none _ _ (judged_few a.text.now a.at)))
 
 pub overflow_add-height : goal.overflow_add-height
-overflow_add-height c = let i = c.loop-next.invariant.few in omega arith
+overflow_add-height c = omega (arith, (rw c.in-Some.ensures.steps at c.loop-line.invariant.2).few)
 
-pub loop-next-smaller : goal.loop-next-smaller
-loop-next-smaller c = omega (arith, c.line_end-end.ensures.forward)
+pub returns-in_err-row : goal.returns-in_err-row
+returns-in_err-row c =
+    let p = err_from_is_err_and c.from_residual.result c.from_residual.ensures.1 in
+    let bad = c.in_err-row.ensures in
+    rw (p.1, p.2, bad.1, passed_bad _ _ _ _ _ _ (rw (c.in-Some.ensures.steps, bad.2) at c.loop-line.invariant.2))
 
-pub loop-next-preserved : goal.loop-next-preserved
-loop-next-preserved c =
-    rw c.greater-width.ensures
-    (passed_row _ _ _ _ _ c.loop-next.invariant _ c.line_end-end.ensures _ (sym c.in-Row.is ∙ c.classify.ensures))
+pub loop-line-preserved-in-Some-2 : goal.loop-line-preserved-in-Some-2
+loop-line-preserved-in-Some-2 c =
+    let row = rw c.in-Some-2.is at c.in_ok-row.ensures in
+    (tt, tt, rw c.max-width.ensures (passed_row _ _ _ _ _ _ (rw (c.in-Some.ensures.steps, row) at c.loop-line.invariant.2)))
 
-pub returns-in-Bad : goal.returns-in-Bad
-returns-in-Bad c =
-    rw (passed_bad _ _ _ _ _ c.loop-next.invariant _ c.line_end-end.ensures _ (sym c.in-Bad.is ∙ c.classify.ensures))
+pub loop-line-preserved : goal.loop-line-preserved
+loop-line-preserved c =
+    (tt, tt, passed_comment _ _ _ _ _ (rw (c.in-Some.ensures.steps, told_none _ c.in_default.not-Some c.in_ok-row.ensures) at c.loop-line.invariant.2))
 
 pub returns : goal.returns
-returns c = passed_end _ _ _ _ _ c.loop-next.invariant c.loop-next-test.false
+returns c = passed_end _ _ _ _ (rw c.in-None.ensures.steps.0 at c.loop-line.invariant.2)

@@ -1,13 +1,11 @@
--- `plaintext::scan::measure` meets its contract. The loop's invariant: the lines passed, and those left, make the text. The measure: the
--- bytes left.
+-- `plaintext::scan::measure` meets its contract. The loop's invariant: the lines passed, and those left, make the text.
 -- Assumes nothing.
-use Prim.Native.Nat.{◌-◌}
 use lib.ListN.{length}
+use Rattle.plaintext.specs.Reading.{judged}
+use Rattle.plaintext.specs.Scanning.{judged_left}
 use Rattle.plaintext.proofs.Scans.{Passed}
 use Rattle.plaintext.proofs.scan.measure.Given as goal
 
-abbrev pub invariant-loop-next : goal.invariant-loop-next
-invariant-loop-next l = Passed l.text l.at l.width l.height l.next
-
-abbrev pub decreases-loop-next : goal.decreases-loop-next
-decreases-loop-next l = length l.text - l.next
+abbrev pub invariant-loop-line : goal.invariant-loop-line
+invariant-loop-line l = (goal.iterator-loop-line).can_next l.line-iterator × (goal.iterator-loop-line).is_finite l.line-iterator
+    × Passed (judged l.text l.at) (judged_left l.line-iterator) (length l.text) l.width l.height

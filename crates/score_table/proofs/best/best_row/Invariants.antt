@@ -1,14 +1,20 @@
--- `score_table::best::best_row` meets its contract. The loop's invariant: what is held is the best of the rows below c. The measure: the rows left.
+-- `score_table::best::best_row` meets its contract. The invariants: what is held is the best of the rows below c; no column passed fails. The measure:
+-- the rows left.
 -- Assumes nothing.
-use Rattle.std.specs.Prelude.{◌-◌, ◌≤◌}
+use Rattle.std.specs.Prelude.{◌≡◌, ◌-◌, ◌≤◌, None, get_or}
+use Rattle.board.specs.Search.{first_not}
 use Rattle.rule.specs.Rule.{entry_of}
 use Rattle.score_table.specs.ScoreTable.{reads_from}
+use Rattle.score_table.specs.Inner.{passes}
 use Rattle.score_table.proofs.Scanning.{Held}
 use Rattle.score_table.proofs.best.best_row.Given as goal
 
-abbrev pub invariant-loop-c : goal.invariant-loop-c
-invariant-loop-c l =
+abbrev pub invariant-rows : goal.invariant-rows
+invariant-rows l =
     (l.c ≤ l.n) × Held l.grid.want (entry_of l.grid.next.now) l.grid.width l.grid.givens.now l.at l.a l.b l.t (reads_from l.table l.first) l.c l.held
 
-abbrev pub decreases-loop-c : goal.decreases-loop-c
-decreases-loop-c l = l.n - l.c
+abbrev pub decreases-rows : goal.decreases-rows
+decreases-rows l = l.n - l.c
+
+abbrev pub invariant-loop-j : goal.invariant-loop-j
+invariant-loop-j l = (l.c ≡ l.initial.c) × (first_not (λ j. passes (entry_of l.grid.next.now) l.w (get_or l.column-items j 0) l.row j) l.j ≡ None)
