@@ -5,6 +5,7 @@ use board::Refusal;
 use job::Checkpoint;
 use job_kind::Kind;
 use solver::Status;
+use std::fmt::Write;
 
 fn main() {
     if let Err(r) = run() {
@@ -31,14 +32,14 @@ fn run() -> Result<(), Refusal> {
 
 fn print_status(status: Status) {
     match status {
-        Status::Unfinished => report::text(b"unfinished\n"),
-        Status::Finished(score) => report::line(b"finished, score ", score),
-        Status::Infeasible => report::text(b"none\n"),
+        Status::Unfinished => report::text("unfinished\n"),
+        Status::Finished(score) => report::line("finished, score ", score),
+        Status::Infeasible => report::text("none\n"),
     }
 }
 
 fn print_numbers(n: Checkpoint) {
-    report::text(b"paused:");
+    report::text("paused:");
     let fields = [
         n.width,
         n.height,
@@ -52,15 +53,14 @@ fn print_numbers(n: Checkpoint) {
         n.kind,
     ];
     for x in fields {
-        report::text(b" ");
-        report::number(x);
+        let _ = write!(report::Output, " {x}");
     }
-    report::text(b"\n");
+    report::text("\n");
 }
 
 fn print_board(board: &[u8]) {
     for cell in board {
-        report::number(*cell as usize);
+        let _ = write!(report::Output, "{cell}");
     }
-    report::text(b"\n");
+    report::text("\n");
 }

@@ -23,45 +23,45 @@ struct Counts {
 }
 
 pub fn try_all() {
-    print(b"every mirror grid up to 6 by 3: ", try_every());
-    try_random(b"pseudo-random mirror grids up to 6 by 4: ", Rules::Conway);
+    print("every mirror grid up to 6 by 3: ", try_every());
+    try_random("pseudo-random mirror grids up to 6 by 4: ", Rules::Conway);
     try_random(
-        b"Day & Night, pseudo-random mirror grids up to 6 by 4: ",
+        "Day & Night, pseudo-random mirror grids up to 6 by 4: ",
         Rules::DayAndNight,
     );
     try_random(
-        b"Seeds, pseudo-random mirror grids up to 6 by 4: ",
+        "Seeds, pseudo-random mirror grids up to 6 by 4: ",
         Rules::Seeds,
     );
     try_random(
-        b"Life without death, pseudo-random mirror grids up to 6 by 4: ",
+        "Life without death, pseudo-random mirror grids up to 6 by 4: ",
         Rules::LifeWithoutDeath,
     );
     try_random(
-        b"pseudo-random rules and mirror grids up to 6 by 4: ",
+        "pseudo-random rules and mirror grids up to 6 by 4: ",
         Rules::Random,
     );
 }
 
-fn print(name: &[u8], c: Counts) {
+fn print(name: &str, c: Counts) {
     report::line(name, c.grids);
-    report::line(b"  with a still mirror board: ", c.boards);
-    report::line(b"  of them with several best: ", c.ties);
-    report::line(b"  with an edge three: ", c.edges);
+    report::line("  with a still mirror board: ", c.boards);
+    report::line("  of them with several best: ", c.ties);
+    report::line("  with an edge three: ", c.edges);
     let none = c.grids.wrapping_sub(c.boards).wrapping_sub(c.edges);
-    report::line(b"  with none: ", none);
-    report::line(b"  differences over an edge three: ", c.edges_wrong);
-    report::line(b"  lopsided by a mark altered: ", c.lopsided);
-    report::line(b"  differences over lopsided marks: ", c.lopsided_wrong);
+    report::line("  with none: ", none);
+    report::line("  differences over an edge three: ", c.edges_wrong);
+    report::line("  lopsided by a mark altered: ", c.lopsided);
+    report::line("  differences over lopsided marks: ", c.lopsided_wrong);
     let r = c.runs;
-    report::line(b"  jobs in one run: ", r.jobs);
-    report::line(b"  differences from enumeration: ", r.wrong);
-    report::line(b"  working calls in pieces: ", r.calls);
-    report::line(b"  calls refused in between: ", r.refused);
-    report::line(b"  of them over an edge three: ", r.edges);
-    report::line(b"  of them over lopsided marks: ", r.altered);
-    report::line(b"  resumptions refused as the other kinds: ", r.others);
-    report::line(b"  differences from one run: ", r.unlike);
+    report::line("  jobs in one run: ", r.jobs);
+    report::line("  differences from enumeration: ", r.wrong);
+    report::line("  working calls in pieces: ", r.calls);
+    report::line("  calls refused in between: ", r.refused);
+    report::line("  of them over an edge three: ", r.edges);
+    report::line("  of them over lopsided marks: ", r.altered);
+    report::line("  resumptions refused as the other kinds: ", r.others);
+    report::line("  differences from one run: ", r.unlike);
 }
 
 // Every mirror grid of widths 2, 4 and 6 and heights 1 to 3: of so many cells in the left halves 3 to that power.
@@ -78,7 +78,7 @@ fn try_every() -> Counts {
 }
 
 // 300 grids of each size: widths 2, 4 and 6, heights 1 to 4.
-fn try_random(name: &[u8], rules: Rules) {
+fn try_random(name: &str, rules: Rules) {
     let mut c = Counts::default();
     for k in 0..3600usize {
         let size = Size::new(Kind::Mirror, k / 300 % 3 * 2 + 2, k / 300 / 3 + 1);
@@ -95,7 +95,7 @@ fn try_grid(case: &Case, c: &mut Counts) {
     if let Some(place) = case.edge_three() {
         count(&mut c.edges);
         if best.is_some() || !case.is_turned_away(Refusal::EdgeThree(place)) {
-            case.differs(b"an edge three", &mut c.edges_wrong);
+            case.differs("an edge three", &mut c.edges_wrong);
         }
         return;
     }
@@ -116,7 +116,7 @@ fn try_lopsided(case: &Case, c: &mut Counts) {
     count(&mut c.lopsided);
     let others = [Kind::Ordinary, Kind::TwoLayers];
     if !lopsided.is_turned_away(refusal) || !others.iter().all(|kind| is_taken(&lopsided, *kind)) {
-        lopsided.differs(b"lopsided marks", &mut c.lopsided_wrong);
+        lopsided.differs("lopsided marks", &mut c.lopsided_wrong);
     }
 }
 

@@ -10,9 +10,9 @@ use trials::{Rules, forged};
 
 fn main() {
     grids::try_all();
-    let _ = forged::try_jobs(b"forged jobs: ", Kind::Mirror, Rules::Conway, 6000);
+    let _ = forged::try_jobs("forged jobs: ", Kind::Mirror, Rules::Conway, 6000);
     let _ = forged::try_jobs(
-        b"forged jobs under other rules: ",
+        "forged jobs under other rules: ",
         Kind::Mirror,
         Rules::Random,
         6000,

@@ -3,6 +3,7 @@
 use board::Refusal;
 use job::{Job, Stage};
 use job_kind::Kind;
+use std::fmt::Write;
 use trials::{Size, plain};
 
 pub fn try_all() {
@@ -22,8 +23,7 @@ fn square(s: Size, table: &mut [u16]) {
     let mut board = [9u8; 256];
     let n = s.cells.min(256);
     let entries = s.room.min(table.len());
-    report::text(b"side ");
-    report::number(s.w);
+    let _ = write!(report::Output, "side {}", s.w);
     match run(s, &givens[..n], &mut table[..entries], &mut board[..n]) {
         Ok(job) => print(s, job, &board),
         Err(r) => report::refusal(r),
@@ -45,28 +45,25 @@ fn run(s: Size, givens: &[u8], table: &mut [u16], board: &mut [u8]) -> Result<Jo
 fn print(s: Size, job: Job, board: &[u8]) {
     match job.stage {
         Stage::Finished { score, .. } => print_score(score, live(board, s.cells)),
-        _ => report::text(b": not finished"),
+        _ => report::text(": not finished"),
     }
-    report::text(b", units ");
-    report::number(job.units);
+    let _ = write!(report::Output, ", units {}", job.units);
     report::text(match s.first_lopsided(board) {
-        None => b", mirror",
-        Some(_) => b", not mirror",
+        None => ", mirror",
+        Some(_) => ", not mirror",
     });
     report::text(
         match plain::first_unlike(rule::conway(), s.w, s.h, board, board) {
-            None => b", still\n",
-            Some(_) => b", not still\n",
+            None => ", still\n",
+            Some(_) => ", not still\n",
         },
     );
 }
 
 fn print_score(score: usize, live: usize) {
-    report::text(b": score ");
-    report::number(score);
+    let _ = write!(report::Output, ": score {score}");
     if live != score {
-        report::text(b", other live cells ");
-        report::number(live);
+        let _ = write!(report::Output, ", other live cells {live}");
     }
 }
 

@@ -15,9 +15,9 @@ fn main() {
     known::try_all();
     targets::try_all();
     wide::try_all();
-    let _ = forged::try_jobs(b"forged jobs: ", Kind::Predecessor, Rules::Conway, 6000);
+    let _ = forged::try_jobs("forged jobs: ", Kind::Predecessor, Rules::Conway, 6000);
     let _ = forged::try_jobs(
-        b"forged jobs under other rules: ",
+        "forged jobs under other rules: ",
         Kind::Predecessor,
         Rules::Random,
         6000,

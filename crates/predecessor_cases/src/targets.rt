@@ -25,87 +25,84 @@ struct Counts {
 pub fn try_all() {
     let mut firsts = [None; plain::BOARDS];
     let f = &mut firsts;
-    try_every(b"every target up to 3 by 3: ", Rules::Conway, f);
+    try_every("every target up to 3 by 3: ", Rules::Conway, f);
     try_random(
-        b"pseudo-random targets of 2 by 2 to 4 by 4: ",
+        "pseudo-random targets of 2 by 2 to 4 by 4: ",
         Rules::Conway,
         1,
         f,
     );
     try_long(
-        b"pseudo-random targets of 5 by 1, 3 by 5, 2 by 8 and 1 by 16: ",
+        "pseudo-random targets of 5 by 1, 3 by 5, 2 by 8 and 1 by 16: ",
         Rules::Conway,
         f,
     );
-    try_every(b"HighLife, every target up to 3 by 3: ", Rules::HighLife, f);
+    try_every("HighLife, every target up to 3 by 3: ", Rules::HighLife, f);
     try_random(
-        b"HighLife, pseudo-random targets of 2 by 2 to 4 by 4: ",
+        "HighLife, pseudo-random targets of 2 by 2 to 4 by 4: ",
         Rules::HighLife,
         1,
         f,
     );
     try_every(
-        b"Day & Night, every target up to 3 by 3: ",
+        "Day & Night, every target up to 3 by 3: ",
         Rules::DayAndNight,
         f,
     );
     try_random(
-        b"Day & Night, pseudo-random targets of 2 by 2 to 4 by 4: ",
+        "Day & Night, pseudo-random targets of 2 by 2 to 4 by 4: ",
         Rules::DayAndNight,
         1,
         f,
     );
-    try_every(b"Seeds, every target up to 3 by 3: ", Rules::Seeds, f);
+    try_every("Seeds, every target up to 3 by 3: ", Rules::Seeds, f);
     try_random(
-        b"Seeds, pseudo-random targets of 2 by 2 to 4 by 4: ",
+        "Seeds, pseudo-random targets of 2 by 2 to 4 by 4: ",
         Rules::Seeds,
         1,
         f,
     );
     try_every(
-        b"Life without death, every target up to 3 by 3: ",
+        "Life without death, every target up to 3 by 3: ",
         Rules::LifeWithoutDeath,
         f,
     );
     try_random(
-        b"Life without death, pseudo-random targets of 2 by 2 to 4 by 4: ",
+        "Life without death, pseudo-random targets of 2 by 2 to 4 by 4: ",
         Rules::LifeWithoutDeath,
         1,
         f,
     );
     try_every(
-        b"pseudo-random rules, every target up to 3 by 3: ",
+        "pseudo-random rules, every target up to 3 by 3: ",
         Rules::Random,
         f,
     );
     try_random(
-        b"pseudo-random rules and targets of 2 by 2 to 4 by 4: ",
+        "pseudo-random rules and targets of 2 by 2 to 4 by 4: ",
         Rules::Random,
         20,
         f,
     );
 }
 
-fn print(name: &[u8], c: Counts) {
+fn print(name: &str, c: Counts) {
     report::line(name, c.targets);
-    report::line(b"  with a board: ", c.boards);
-    report::line(b"  of them with the dead board: ", c.dead);
-    report::line(b"  with none: ", c.targets.wrapping_sub(c.boards));
-    report::line(
-        b"  with three live cells in a line along an edge: ",
-        c.edges,
-    );
-    report::line(b"  lopsided: ", c.lopsided);
-    report::line(b"  with a byte altered to 2 or more: ", c.bad);
-    report::line(b"  differences over such bytes: ", c.bad_wrong);
+    report::line("  with a board: ", c.boards);
+    report::line("  of them with the dead board: ", c.dead);
+    report::line("  with none: ", c.targets.wrapping_sub(c.boards));
+    report::line("  with three live cells in a line along an edge: ", c.edges);
+    report::line("  lopsided: ", c.lopsided);
+    report::line("  with a byte altered to 2 or more: ", c.bad);
+    report::line("  differences over such bytes: ", c.bad_wrong);
     let r = c.runs;
-    report::line(b"  jobs in one run: ", r.jobs);
-    report::line(b"  differences from enumeration: ", r.wrong);
-    report::line(b"  working calls in pieces: ", r.calls);
-    report::line(b"  calls refused in between: ", r.refused);
-    report::line(b"  of them over a byte of 2 or more: ", r.altered);
-    report::line(b"  resumptions refused as the other kinds: ", r.others);
-    report::line(b"  differences from one run: ", r.unlike);
+    report::line("  jobs in one run: ", r.jobs);
+    report::line("  differences from enumeration: ", r.wrong);
+    report::line("  working calls in pieces: ", r.calls);
+    report::line("  calls refused in between: ", r.refused);
+    report::line("  of them over a byte of 2 or more: ", r.altered);
+    report::line("  resumptions refused as the other kinds: ", r.others);
+    report::line("  differences from one run: ", r.unlike);
 }
 
 fn size(w: usize, h: usize) -> Size {
@@ -113,7 +110,7 @@ fn size(w: usize, h: usize) -> Size {
 }
 
 // All targets of widths and heights 1 to 3, each size under one of the rules.
-fn try_every(name: &[u8], rules: Rules, firsts: &mut [Option<usize>]) {
+fn try_every(name: &str, rules: Rules, firsts: &mut [Option<usize>]) {
     let mut c = Counts::default();
     for k in 0..9usize {
         let s = size(k % 3 + 1, k / 3 + 1);
@@ -128,7 +125,7 @@ fn try_every(name: &[u8], rules: Rules, firsts: &mut [Option<usize>]) {
 }
 
 // 400 targets of each of four sizes, higher than 4 or wider.
-fn try_long(name: &[u8], rules: Rules, firsts: &mut [Option<usize>]) {
+fn try_long(name: &str, rules: Rules, firsts: &mut [Option<usize>]) {
     let mut c = Counts::default();
     for (w, h) in [(5, 1), (3, 5), (2, 8), (1, 16)] {
         try_rules(rules, size(w, h), 1, firsts, &mut c);
@@ -137,7 +134,7 @@ fn try_long(name: &[u8], rules: Rules, firsts: &mut [Option<usize>]) {
 }
 
 // 400 targets of each size, widths and heights 2 to 4, under so many rules.
-fn try_random(name: &[u8], rules: Rules, many: usize, firsts: &mut [Option<usize>]) {
+fn try_random(name: &str, rules: Rules, many: usize, firsts: &mut [Option<usize>]) {
     let mut c = Counts::default();
     for k in 0..9usize {
         try_rules(rules, size(k % 3 + 2, k / 3 + 2), many, firsts, &mut c);
@@ -186,6 +183,6 @@ fn try_bad(case: &Case, c: &mut Counts) {
     let (bad, refusal) = case.altered(case.seed);
     count(&mut c.bad);
     if !bad.is_turned_away(refusal) {
-        bad.differs(b"a byte of 2 or more", &mut c.bad_wrong);
+        bad.differs("a byte of 2 or more", &mut c.bad_wrong);
     }
 }

@@ -25,12 +25,12 @@ pub fn try_all() {
         try_size(w, h, &mut firsts, &mut table, &mut t);
     }
     report::line(
-        b"pseudo-random targets of 5 by 3, 6 by 2, 7 by 2 and 8 by 2: ",
+        "pseudo-random targets of 5 by 3, 6 by 2, 7 by 2 and 8 by 2: ",
         t.targets,
     );
-    report::line(b"  with a board: ", t.boards);
-    report::line(b"  with none: ", t.targets.wrapping_sub(t.boards));
-    report::line(b"  differences from enumeration: ", t.wrong);
+    report::line("  with a board: ", t.boards);
+    report::line("  with none: ", t.targets.wrapping_sub(t.boards));
+    report::line("  differences from enumeration: ", t.wrong);
 }
 
 fn try_size(w: usize, h: usize, firsts: &mut [Option<usize>], table: &mut [u16], t: &mut Tally) {
@@ -57,7 +57,7 @@ fn try_target(case: &Case, firsts: &[Option<usize>], table: &mut [u16], t: &mut 
         Err(_) => false,
     };
     if !right {
-        case.differs(b"a wide target", &mut t.wrong);
+        case.differs("a wide target", &mut t.wrong);
     }
 }
 

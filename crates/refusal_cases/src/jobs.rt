@@ -2,6 +2,7 @@
 use board::Refusal;
 use job::{Checkpoint, Job, Stage};
 use job_kind::Kind;
+use std::fmt::Write;
 
 #[derive(Clone, Copy)]
 pub struct Grid {
@@ -178,17 +179,17 @@ impl Grid {
 
 // Resumes numbers as a kind, and prints them, and the job that they come to.
 pub fn resume(kind: Kind, numbers: Checkpoint) {
-    report::text(b"resume");
+    report::text("resume");
     print_numbers(numbers);
     report::text(match kind {
-        Kind::Ordinary => b", as ordinary",
-        Kind::TwoLayers => b", as two layers",
-        Kind::Mirror => b", as mirror boards",
-        Kind::Predecessor => b", as predecessor",
+        Kind::Ordinary => ", as ordinary",
+        Kind::TwoLayers => ", as two layers",
+        Kind::Mirror => ", as mirror boards",
+        Kind::Predecessor => ", as predecessor",
     });
     match numbers.resume(kind) {
         Ok(job) => {
-            report::text(b": passed\n");
+            report::text(": passed\n");
             print_job(job);
         }
         Err(r) => report::refusal(r),
@@ -197,13 +198,13 @@ pub fn resume(kind: Kind, numbers: Checkpoint) {
 
 // Pauses a job, and prints it, and its numbers.
 pub fn pause(job: Job) {
-    report::text(b"pause, ");
+    report::text("pause, ");
     print_fields(job);
     match job.pause() {
         Ok(numbers) => {
-            report::text(b": numbers");
+            report::text(": numbers");
             print_numbers(numbers);
-            report::text(b"\n");
+            report::text("\n");
         }
         Err(r) => report::refusal(r),
     }
@@ -223,8 +224,7 @@ fn print_numbers(t: Checkpoint) {
         t.kind,
     ];
     for n in numbers {
-        report::text(b" ");
-        report::number(n);
+        let _ = write!(report::Output, " {n}");
     }
 }
 
@@ -233,65 +233,60 @@ pub fn print_result(r: Result<Job, Refusal>) {
     match r {
         Ok(job) => {
             report::text(match job.kind {
-                Kind::Ordinary => b": a job",
-                Kind::TwoLayers => b": a job of two layers",
-                Kind::Mirror => b": a job of mirror boards",
-                Kind::Predecessor => b": a predecessor job",
+                Kind::Ordinary => ": a job",
+                Kind::TwoLayers => ": a job of two layers",
+                Kind::Mirror => ": a job of mirror boards",
+                Kind::Predecessor => ": a predecessor job",
             });
-            report::line(b" at unit ", job.units);
+            report::line(" at unit ", job.units);
         }
         Err(r) => report::refusal(r),
     }
 }
 
 pub fn print_job(job: Job) {
-    report::text(b"  ");
+    report::text("  ");
     print_fields(job);
-    report::text(b"\n");
+    report::text("\n");
 }
 
 // A job, without the end of the line.
 fn print_fields(job: Job) {
     report::text(match job.kind {
-        Kind::Ordinary => b"job: ",
-        Kind::TwoLayers => b"job of two layers: ",
-        Kind::Mirror => b"job of mirror boards: ",
-        Kind::Predecessor => b"predecessor job: ",
+        Kind::Ordinary => "job: ",
+        Kind::TwoLayers => "job of two layers: ",
+        Kind::Mirror => "job of mirror boards: ",
+        Kind::Predecessor => "predecessor job: ",
     });
-    report::number(job.width);
-    report::text(b" by ");
-    report::number(job.height);
-    report::text(b", births ");
-    report::number(job.rule.births);
-    report::text(b", survivals ");
-    report::number(job.rule.survivals);
-    report::text(b", unit ");
-    report::number(job.units);
+    let _ = write!(
+        report::Output,
+        "{} by {}, births {}, survivals {}, unit {}",
+        job.width,
+        job.height,
+        job.rule.births,
+        job.rule.survivals,
+        job.units
+    );
     match job.stage {
         // rows and live cells only where there are any, as in a job of two layers that fills again
         Stage::Filling {
             above: 0,
             last: 0,
             live: 0,
-        } => report::text(b", filling"),
+        } => report::text(", filling"),
         Stage::Filling { above, last, live } => {
-            print_rows(b", filling below ", above, last, live);
+            print_rows(", filling below ", above, last, live);
         }
         Stage::Choosing { above, last, live } => {
-            print_rows(b", choosing below ", above, last, live);
+            print_rows(", choosing below ", above, last, live);
         }
         Stage::Finished { above, last, score } => {
-            print_rows(b", finished with ", above, last, score);
+            print_rows(", finished with ", above, last, score);
         }
-        Stage::Infeasible => report::text(b", none"),
+        Stage::Infeasible => report::text(", none"),
     }
 }
 
-fn print_rows(name: &[u8], above: usize, last: usize, live: usize) {
-    report::text(name);
-    report::number(above);
-    report::text(b" and ");
-    report::number(last);
-    report::text(b", live ");
-    report::number(live);
+fn print_rows(name: &str, above: usize, last: usize, live: usize) {
+    let _ = write!(report::Output, "{name}{above} and {last}, live {live}");
 }

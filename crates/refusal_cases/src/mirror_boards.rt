@@ -10,56 +10,56 @@ pub fn order() {
     let short = Lent::of(31, 7);
     let job = Grid::new(Kind::Mirror, 4, 2).start();
     workings::work(
-        b"work, mirror boards, width 3, and all below",
+        "work, mirror boards, width 3, and all below",
         Grid::new(Kind::Mirror, 3, 2).start(),
         &[2, 2, 2, 0, 3, 0, 0],
         short,
         9,
     );
     workings::work(
-        b"work, mirror boards, width 22, and all below",
+        "work, mirror boards, width 22, and all below",
         Grid::new(Kind::Mirror, 22, 2).start(),
         &[2, 2, 2, 0, 3, 0, 0],
         short,
         9,
     );
     workings::work(
-        b"work, mirror boards, unit 32 in filling, and all below",
+        "work, mirror boards, unit 32 in filling, and all below",
         Grid::new(Kind::Mirror, 4, 2).filling(32, [0, 0, 0]),
         &[2, 2, 2, 0, 3, 0, 0],
         short,
         9,
     );
     workings::work(
-        b"work, mirror boards, 7 givens of 8, and all below",
+        "work, mirror boards, 7 givens of 8, and all below",
         job,
         &[2, 2, 2, 0, 3, 0, 0],
         short,
         9,
     );
     workings::work(
-        b"work, mirror boards, a mark 3, and all below",
+        "work, mirror boards, a mark 3, and all below",
         job,
         &[2, 2, 2, 0, 3, 0, 0, 0],
         short,
         9,
     );
     workings::work(
-        b"work, mirror boards, row 1 given live but its last, and all below",
+        "work, mirror boards, row 1 given live but its last, and all below",
         job,
         &[2, 2, 2, 0, 0, 0, 0, 0],
         short,
         9,
     );
     workings::work(
-        b"work, mirror boards, the second of row 2 dead, its reflection free, and all below",
+        "work, mirror boards, the second of row 2 dead, its reflection free, and all below",
         job,
         &[2, 1, 1, 2, 0, 1, 0, 0],
         short,
         9,
     );
     workings::work(
-        b"work, mirror boards, 7 cells of 8, and 31 entries",
+        "work, mirror boards, 7 cells of 8, and 31 entries",
         job,
         &[0; 8],
         short,
@@ -71,21 +71,21 @@ pub fn order() {
 pub fn memory() {
     let job = Grid::new(Kind::Mirror, 4, 2).start();
     workings::work(
-        b"work, mirror boards, 9 cells of 8, and 31 entries",
+        "work, mirror boards, 9 cells of 8, and 31 entries",
         job,
         &[0; 8],
         Lent::of(31, 9),
         9,
     );
     workings::work(
-        b"work, mirror boards, 31 entries of 32",
+        "work, mirror boards, 31 entries of 32",
         job,
         &[0; 8],
         Lent::of(31, 8),
         9,
     );
     workings::work(
-        b"work, mirror boards, the first dead, its reflection free, 32 entries",
+        "work, mirror boards, the first dead, its reflection free, 32 entries",
         job,
         &[1, 0, 0, 0, 0, 0, 0, 0],
         Lent::of(32, 8),
@@ -99,19 +99,19 @@ pub fn passes() {
     let free = [0; 8];
     let none = [2, 1, 1, 2, 0, 0, 0, 0];
     let more = Lent::of(40, 8);
-    workings::work(b"work, mirror boards, allowance 0", job, &free, more, 0);
-    workings::work(b"work, mirror boards, allowance 9", job, &free, more, 9);
-    workings::work(b"work, mirror boards, allowance 33", job, &free, more, 33);
-    workings::work(b"work, mirror boards, allowance 34", job, &free, more, 34);
+    workings::work("work, mirror boards, allowance 0", job, &free, more, 0);
+    workings::work("work, mirror boards, allowance 9", job, &free, more, 9);
+    workings::work("work, mirror boards, allowance 33", job, &free, more, 33);
+    workings::work("work, mirror boards, allowance 34", job, &free, more, 34);
     workings::work(
-        b"work, mirror boards, no board, allowance 32",
+        "work, mirror boards, no board, allowance 32",
         job,
         &none,
         more,
         32,
     );
     workings::work(
-        b"work, mirror boards, no board, allowance 33",
+        "work, mirror boards, no board, allowance 33",
         job,
         &none,
         more,
@@ -122,11 +122,11 @@ pub fn passes() {
 // Calls of one unit that chooses row 2 of 4 by 3 over a table whose entries are none but that of row 2 over row 3, both held as 1: 1,200 counts and
 // 1,201 does not.
 pub fn spoiled() {
-    choose(b"spoiled table, mirror boards, 1200", 1200);
-    choose(b"spoiled table, mirror boards, 1201", 1201);
+    choose("spoiled table, mirror boards, 1200", 1200);
+    choose("spoiled table, mirror boards, 1201", 1201);
 }
 
-fn choose(name: &[u8], entry: u16) {
+fn choose(name: &str, entry: u16) {
     let mut table = [65535u16; 48];
     table[21] = entry;
     let job = Grid::new(Kind::Mirror, 4, 3).choosing(49, [0, 1, 2]);

@@ -6,7 +6,7 @@ use rule::Rule;
 pub fn sizes() {
     open(
         Kind::Ordinary,
-        b"open, width 0, height 61, 3 givens",
+        "open, width 0, height 61, 3 givens",
         8,
         0,
         61,
@@ -14,7 +14,7 @@ pub fn sizes() {
     );
     open(
         Kind::Ordinary,
-        b"open, width 11, height 0, 3 givens",
+        "open, width 11, height 0, 3 givens",
         8,
         11,
         0,
@@ -22,7 +22,7 @@ pub fn sizes() {
     );
     open(
         Kind::Ordinary,
-        b"open, height 0, 3 givens",
+        "open, height 0, 3 givens",
         8,
         2,
         0,
@@ -30,7 +30,7 @@ pub fn sizes() {
     );
     open(
         Kind::Ordinary,
-        b"open, height 61, 3 givens",
+        "open, height 61, 3 givens",
         8,
         2,
         61,
@@ -38,7 +38,7 @@ pub fn sizes() {
     );
     open(
         Kind::Ordinary,
-        b"open, height 0, births 9, 3 givens",
+        "open, height 0, births 9, 3 givens",
         9,
         2,
         0,
@@ -46,7 +46,7 @@ pub fn sizes() {
     );
     open(
         Kind::Ordinary,
-        b"open, births 9, givens 0, 3, 0 of 4",
+        "open, births 9, givens 0, 3, 0 of 4",
         9,
         2,
         2,
@@ -57,7 +57,7 @@ pub fn sizes() {
 pub fn givens() {
     open(
         Kind::Ordinary,
-        b"open, givens 0, 3, 0 of 4",
+        "open, givens 0, 3, 0 of 4",
         8,
         2,
         2,
@@ -65,7 +65,7 @@ pub fn givens() {
     );
     open(
         Kind::Ordinary,
-        b"open, givens 0, 3, 0, 0, 0 of 4",
+        "open, givens 0, 3, 0, 0, 0 of 4",
         8,
         2,
         2,
@@ -73,7 +73,7 @@ pub fn givens() {
     );
     open(
         Kind::Ordinary,
-        b"open, givens 0, 1, 3, 4",
+        "open, givens 0, 1, 3, 4",
         8,
         2,
         2,
@@ -81,7 +81,7 @@ pub fn givens() {
     );
     open(
         Kind::Ordinary,
-        b"open, givens 0, 1, 2, 0",
+        "open, givens 0, 1, 2, 0",
         8,
         2,
         2,
@@ -91,24 +91,24 @@ pub fn givens() {
 
 // Openings of the largest grid, and of larger ones.
 pub fn largest() {
-    open(Kind::Ordinary, b"open, 10 by 60", 8, 10, 60, &[0; 600]);
-    open(Kind::Ordinary, b"open, 11 by 60", 8, 11, 60, &[0; 660]);
-    open(Kind::Ordinary, b"open, 10 by 61", 8, 10, 61, &[0; 610]);
+    open(Kind::Ordinary, "open, 10 by 60", 8, 10, 60, &[0; 600]);
+    open(Kind::Ordinary, "open, 11 by 60", 8, 11, 60, &[0; 660]);
+    open(Kind::Ordinary, "open, 10 by 61", 8, 10, 61, &[0; 610]);
 }
 
 // Openings under other rules.
 pub fn rules() {
-    open_ruled(b"open, births 1", 1, 12);
-    open_ruled(b"open, births 512", 512, 12);
-    open_ruled(b"open, survivals 512", 8, 512);
-    open_ruled(b"open, births 510, survivals 511", 510, 511);
+    open_ruled("open, births 1", 1, 12);
+    open_ruled("open, births 512", 512, 12);
+    open_ruled("open, survivals 512", 8, 512);
+    open_ruled("open, births 510, survivals 511", 510, 511);
 }
 
 // Openings with edge threes, and with lines that are none.
 pub fn edge_threes() {
     open(
         Kind::Ordinary,
-        b"open, 3 by 2, row 1 given live",
+        "open, 3 by 2, row 1 given live",
         8,
         3,
         2,
@@ -116,7 +116,7 @@ pub fn edge_threes() {
     );
     open(
         Kind::Ordinary,
-        b"open, 3 by 2, row 2 given live",
+        "open, 3 by 2, row 2 given live",
         8,
         3,
         2,
@@ -124,7 +124,7 @@ pub fn edge_threes() {
     );
     open(
         Kind::Ordinary,
-        b"open, 2 by 3, column 1 given live",
+        "open, 2 by 3, column 1 given live",
         8,
         2,
         3,
@@ -132,7 +132,7 @@ pub fn edge_threes() {
     );
     open(
         Kind::Ordinary,
-        b"open, 2 by 3, column 2 given live",
+        "open, 2 by 3, column 2 given live",
         8,
         2,
         3,
@@ -140,7 +140,7 @@ pub fn edge_threes() {
     );
     open(
         Kind::Ordinary,
-        b"open, 5 by 1, all given live",
+        "open, 5 by 1, all given live",
         8,
         5,
         1,
@@ -148,7 +148,7 @@ pub fn edge_threes() {
     );
     open(
         Kind::Ordinary,
-        b"open, 1 by 4, the last three given live",
+        "open, 1 by 4, the last three given live",
         8,
         1,
         4,
@@ -156,7 +156,7 @@ pub fn edge_threes() {
     );
     open(
         Kind::Ordinary,
-        b"open, 3 by 3, column 1 and row 3 given live",
+        "open, 3 by 3, column 1 and row 3 given live",
         8,
         3,
         3,
@@ -164,7 +164,7 @@ pub fn edge_threes() {
     );
     open(
         Kind::Ordinary,
-        b"open, 5 by 3, column 1 and the end of row 1 given live",
+        "open, 5 by 3, column 1 and the end of row 1 given live",
         8,
         5,
         3,
@@ -172,7 +172,7 @@ pub fn edge_threes() {
     );
     open(
         Kind::Ordinary,
-        b"open, 3 by 3, row 2 given live",
+        "open, 3 by 3, row 2 given live",
         8,
         3,
         3,
@@ -180,7 +180,7 @@ pub fn edge_threes() {
     );
     open(
         Kind::Ordinary,
-        b"open, 2 by 2, three given live round a corner",
+        "open, 2 by 2, three given live round a corner",
         8,
         2,
         2,
@@ -188,7 +188,7 @@ pub fn edge_threes() {
     );
     open(
         Kind::Ordinary,
-        b"open, 3 by 1, the first given live",
+        "open, 3 by 1, the first given live",
         8,
         3,
         1,
@@ -196,7 +196,7 @@ pub fn edge_threes() {
     );
     open(
         Kind::Ordinary,
-        b"open, 3 by 1, the second given dead",
+        "open, 3 by 1, the second given dead",
         8,
         3,
         1,
@@ -208,7 +208,7 @@ pub fn edge_threes() {
 pub fn edge_threes_ruled() {
     open(
         Kind::Ordinary,
-        b"open, 3 by 1, all given live, births on 2",
+        "open, 3 by 1, all given live, births on 2",
         4,
         3,
         1,
@@ -216,7 +216,7 @@ pub fn edge_threes_ruled() {
     );
     open(
         Kind::Ordinary,
-        b"open, 3 by 1, all given live, births on 2, 3, 4",
+        "open, 3 by 1, all given live, births on 2, 3, 4",
         28,
         3,
         1,
@@ -224,7 +224,7 @@ pub fn edge_threes_ruled() {
     );
     open(
         Kind::Ordinary,
-        b"open, 3 by 1, all given live, births on 0 and 3",
+        "open, 3 by 1, all given live, births on 0 and 3",
         9,
         3,
         1,
@@ -232,7 +232,7 @@ pub fn edge_threes_ruled() {
     );
     open(
         Kind::Ordinary,
-        b"open, 3 by 1, four given live",
+        "open, 3 by 1, four given live",
         8,
         3,
         1,
@@ -240,7 +240,7 @@ pub fn edge_threes_ruled() {
     );
     open(
         Kind::Ordinary,
-        b"open, 3 by 2, row 1 given live, a mark 3",
+        "open, 3 by 2, row 1 given live, a mark 3",
         8,
         3,
         2,
@@ -252,7 +252,7 @@ pub fn edge_threes_ruled() {
 pub fn two_layers() {
     open(
         Kind::TwoLayers,
-        b"open, two layers, width 11, and all below",
+        "open, two layers, width 11, and all below",
         9,
         11,
         61,
@@ -260,7 +260,7 @@ pub fn two_layers() {
     );
     open(
         Kind::TwoLayers,
-        b"open, two layers, height 61, and all below",
+        "open, two layers, height 61, and all below",
         9,
         3,
         61,
@@ -268,7 +268,7 @@ pub fn two_layers() {
     );
     open(
         Kind::TwoLayers,
-        b"open, two layers, births 9, and all below",
+        "open, two layers, births 9, and all below",
         9,
         3,
         1,
@@ -276,7 +276,7 @@ pub fn two_layers() {
     );
     open(
         Kind::TwoLayers,
-        b"open, two layers, 4 givens of 6, and all below",
+        "open, two layers, 4 givens of 6, and all below",
         8,
         3,
         2,
@@ -284,7 +284,7 @@ pub fn two_layers() {
     );
     open(
         Kind::TwoLayers,
-        b"open, two layers, row 1 of 3 by 2 given live, a mark 3",
+        "open, two layers, row 1 of 3 by 2 given live, a mark 3",
         8,
         3,
         2,
@@ -292,7 +292,7 @@ pub fn two_layers() {
     );
     open(
         Kind::TwoLayers,
-        b"open, two layers, row 1 of 3 by 2 given live",
+        "open, two layers, row 1 of 3 by 2 given live",
         8,
         3,
         2,
@@ -300,16 +300,16 @@ pub fn two_layers() {
     );
     open(
         Kind::TwoLayers,
-        b"open, two layers, 3 by 2",
+        "open, two layers, 3 by 2",
         8,
         3,
         2,
         &[0; 6],
     );
-    open(Kind::TwoLayers, b"open, two layers, 1 by 1", 8, 1, 1, &[0]);
+    open(Kind::TwoLayers, "open, two layers, 1 by 1", 8, 1, 1, &[0]);
     open(
         Kind::TwoLayers,
-        b"open, two layers, 10 by 60",
+        "open, two layers, 10 by 60",
         8,
         10,
         60,
@@ -321,7 +321,7 @@ pub fn two_layers() {
 pub fn mirror_boards() {
     open(
         Kind::Mirror,
-        b"open, mirror boards, width 0, and all below",
+        "open, mirror boards, width 0, and all below",
         9,
         0,
         61,
@@ -329,7 +329,7 @@ pub fn mirror_boards() {
     );
     open(
         Kind::Mirror,
-        b"open, mirror boards, width 1, and all below",
+        "open, mirror boards, width 1, and all below",
         9,
         1,
         61,
@@ -337,7 +337,7 @@ pub fn mirror_boards() {
     );
     open(
         Kind::Mirror,
-        b"open, mirror boards, width 3, and all below",
+        "open, mirror boards, width 3, and all below",
         9,
         3,
         61,
@@ -345,7 +345,7 @@ pub fn mirror_boards() {
     );
     open(
         Kind::Mirror,
-        b"open, mirror boards, width 19, and all below",
+        "open, mirror boards, width 19, and all below",
         9,
         19,
         61,
@@ -353,7 +353,7 @@ pub fn mirror_boards() {
     );
     open(
         Kind::Mirror,
-        b"open, mirror boards, width 21, and all below",
+        "open, mirror boards, width 21, and all below",
         9,
         21,
         61,
@@ -361,7 +361,7 @@ pub fn mirror_boards() {
     );
     open(
         Kind::Mirror,
-        b"open, mirror boards, width 22, and all below",
+        "open, mirror boards, width 22, and all below",
         9,
         22,
         61,
@@ -369,7 +369,7 @@ pub fn mirror_boards() {
     );
     open(
         Kind::Mirror,
-        b"open, mirror boards, 2 by 1",
+        "open, mirror boards, 2 by 1",
         8,
         2,
         1,
@@ -377,7 +377,7 @@ pub fn mirror_boards() {
     );
     open(
         Kind::Mirror,
-        b"open, mirror boards, 2 by 60",
+        "open, mirror boards, 2 by 60",
         8,
         2,
         60,
@@ -385,7 +385,7 @@ pub fn mirror_boards() {
     );
     open(
         Kind::Mirror,
-        b"open, mirror boards, 12 by 1",
+        "open, mirror boards, 12 by 1",
         8,
         12,
         1,
@@ -393,7 +393,7 @@ pub fn mirror_boards() {
     );
     open(
         Kind::Mirror,
-        b"open, mirror boards, 20 by 60",
+        "open, mirror boards, 20 by 60",
         8,
         20,
         60,
@@ -401,7 +401,7 @@ pub fn mirror_boards() {
     );
     open(
         Kind::Mirror,
-        b"open, mirror boards, 20 by 61",
+        "open, mirror boards, 20 by 61",
         8,
         20,
         61,
@@ -409,7 +409,7 @@ pub fn mirror_boards() {
     );
     open(
         Kind::Mirror,
-        b"open, mirror boards, 22 by 60",
+        "open, mirror boards, 22 by 60",
         8,
         22,
         60,
@@ -421,7 +421,7 @@ pub fn mirror_boards() {
 pub fn mirror_order() {
     open(
         Kind::Mirror,
-        b"open, mirror boards, height 0, and all below",
+        "open, mirror boards, height 0, and all below",
         9,
         4,
         0,
@@ -429,7 +429,7 @@ pub fn mirror_order() {
     );
     open(
         Kind::Mirror,
-        b"open, mirror boards, height 61, and all below",
+        "open, mirror boards, height 61, and all below",
         9,
         4,
         61,
@@ -437,7 +437,7 @@ pub fn mirror_order() {
     );
     open(
         Kind::Mirror,
-        b"open, mirror boards, births 9, and all below",
+        "open, mirror boards, births 9, and all below",
         9,
         4,
         2,
@@ -445,7 +445,7 @@ pub fn mirror_order() {
     );
     open(
         Kind::Mirror,
-        b"open, mirror boards, 7 givens of 8, and all below",
+        "open, mirror boards, 7 givens of 8, and all below",
         8,
         4,
         2,
@@ -453,7 +453,7 @@ pub fn mirror_order() {
     );
     open(
         Kind::Mirror,
-        b"open, mirror boards, 9 givens of 8, and all below",
+        "open, mirror boards, 9 givens of 8, and all below",
         8,
         4,
         2,
@@ -461,7 +461,7 @@ pub fn mirror_order() {
     );
     open(
         Kind::Mirror,
-        b"open, mirror boards, row 1 given live but its last, a mark 3",
+        "open, mirror boards, row 1 given live but its last, a mark 3",
         8,
         4,
         2,
@@ -469,7 +469,7 @@ pub fn mirror_order() {
     );
     open(
         Kind::Mirror,
-        b"open, mirror boards, row 1 given live but its last",
+        "open, mirror boards, row 1 given live but its last",
         8,
         4,
         2,
@@ -477,7 +477,7 @@ pub fn mirror_order() {
     );
     open(
         Kind::Mirror,
-        b"open, mirror boards, row 1 given live but its last, births on 2",
+        "open, mirror boards, row 1 given live but its last, births on 2",
         4,
         4,
         2,
@@ -485,7 +485,7 @@ pub fn mirror_order() {
     );
     open(
         Kind::Mirror,
-        b"open, mirror boards, row 1 given live",
+        "open, mirror boards, row 1 given live",
         8,
         4,
         2,
@@ -493,7 +493,7 @@ pub fn mirror_order() {
     );
     open(
         Kind::Mirror,
-        b"open, mirror boards, 4 by 2",
+        "open, mirror boards, 4 by 2",
         8,
         4,
         2,
@@ -505,7 +505,7 @@ pub fn mirror_order() {
 pub fn lopsided() {
     open(
         Kind::Mirror,
-        b"open, mirror boards, the first dead, its reflection free",
+        "open, mirror boards, the first dead, its reflection free",
         8,
         4,
         2,
@@ -513,7 +513,7 @@ pub fn lopsided() {
     );
     open(
         Kind::Mirror,
-        b"open, mirror boards, the first free, its reflection live",
+        "open, mirror boards, the first free, its reflection live",
         8,
         4,
         2,
@@ -521,7 +521,7 @@ pub fn lopsided() {
     );
     open(
         Kind::Mirror,
-        b"open, mirror boards, the second live, its reflection dead",
+        "open, mirror boards, the second live, its reflection dead",
         8,
         4,
         2,
@@ -529,7 +529,7 @@ pub fn lopsided() {
     );
     open(
         Kind::Mirror,
-        b"open, mirror boards, the second of row 2 free, its reflection dead",
+        "open, mirror boards, the second of row 2 free, its reflection dead",
         8,
         4,
         2,
@@ -537,7 +537,7 @@ pub fn lopsided() {
     );
     open(
         Kind::Mirror,
-        b"open, mirror boards, the first of row 2 dead, its reflection live",
+        "open, mirror boards, the first of row 2 dead, its reflection live",
         8,
         4,
         2,
@@ -545,7 +545,7 @@ pub fn lopsided() {
     );
     open(
         Kind::Mirror,
-        b"open, mirror boards, the second of row 1 and the first of row 2",
+        "open, mirror boards, the second of row 1 and the first of row 2",
         8,
         4,
         2,
@@ -554,16 +554,16 @@ pub fn lopsided() {
     let alike = [1, 2, 0, 0, 1, 2, 0, 0];
     open(
         Kind::Mirror,
-        b"open, mirror boards, two rows alike",
+        "open, mirror boards, two rows alike",
         8,
         4,
         2,
         &alike,
     );
-    open(Kind::Ordinary, b"open, two rows alike", 8, 4, 2, &alike);
+    open(Kind::Ordinary, "open, two rows alike", 8, 4, 2, &alike);
     open(
         Kind::TwoLayers,
-        b"open, two layers, two rows alike",
+        "open, two layers, two rows alike",
         8,
         4,
         2,
@@ -575,7 +575,7 @@ pub fn lopsided() {
 pub fn predecessor_order() {
     open(
         Kind::Predecessor,
-        b"open, predecessor, width 0, and all below",
+        "open, predecessor, width 0, and all below",
         9,
         0,
         61,
@@ -583,7 +583,7 @@ pub fn predecessor_order() {
     );
     open(
         Kind::Predecessor,
-        b"open, predecessor, width 11, and all below",
+        "open, predecessor, width 11, and all below",
         9,
         11,
         61,
@@ -591,7 +591,7 @@ pub fn predecessor_order() {
     );
     open(
         Kind::Predecessor,
-        b"open, predecessor, width 12, and all below",
+        "open, predecessor, width 12, and all below",
         9,
         12,
         61,
@@ -599,7 +599,7 @@ pub fn predecessor_order() {
     );
     open(
         Kind::Predecessor,
-        b"open, predecessor, height 0, and all below",
+        "open, predecessor, height 0, and all below",
         9,
         3,
         0,
@@ -607,7 +607,7 @@ pub fn predecessor_order() {
     );
     open(
         Kind::Predecessor,
-        b"open, predecessor, height 61, and all below",
+        "open, predecessor, height 61, and all below",
         9,
         3,
         61,
@@ -615,7 +615,7 @@ pub fn predecessor_order() {
     );
     open(
         Kind::Predecessor,
-        b"open, predecessor, births 9, and all below",
+        "open, predecessor, births 9, and all below",
         9,
         3,
         2,
@@ -623,7 +623,7 @@ pub fn predecessor_order() {
     );
     open(
         Kind::Predecessor,
-        b"open, predecessor, 4 cells of 6, and all below",
+        "open, predecessor, 4 cells of 6, and all below",
         8,
         3,
         2,
@@ -631,7 +631,7 @@ pub fn predecessor_order() {
     );
     open(
         Kind::Predecessor,
-        b"open, predecessor, 7 cells of 6, and all below",
+        "open, predecessor, 7 cells of 6, and all below",
         8,
         3,
         2,
@@ -639,7 +639,7 @@ pub fn predecessor_order() {
     );
     open(
         Kind::Predecessor,
-        b"open, predecessor, bytes 2 and 3",
+        "open, predecessor, bytes 2 and 3",
         8,
         3,
         2,
@@ -647,7 +647,7 @@ pub fn predecessor_order() {
     );
     open(
         Kind::Predecessor,
-        b"open, predecessor, bytes 255 and 2",
+        "open, predecessor, bytes 255 and 2",
         8,
         3,
         2,
@@ -659,7 +659,7 @@ pub fn predecessor_order() {
 pub fn predecessors() {
     open(
         Kind::Predecessor,
-        b"open, predecessor, row 1 of 2",
+        "open, predecessor, row 1 of 2",
         8,
         3,
         2,
@@ -667,7 +667,7 @@ pub fn predecessors() {
     );
     open(
         Kind::Predecessor,
-        b"open, predecessor, row 1 live",
+        "open, predecessor, row 1 live",
         8,
         3,
         2,
@@ -675,7 +675,7 @@ pub fn predecessors() {
     );
     open(
         Kind::Predecessor,
-        b"open, predecessor, all live",
+        "open, predecessor, all live",
         8,
         3,
         2,
@@ -683,7 +683,7 @@ pub fn predecessors() {
     );
     open(
         Kind::Predecessor,
-        b"open, predecessor, the first live",
+        "open, predecessor, the first live",
         8,
         3,
         2,
@@ -691,7 +691,7 @@ pub fn predecessors() {
     );
     open(
         Kind::Predecessor,
-        b"open, predecessor, dead",
+        "open, predecessor, dead",
         8,
         3,
         2,
@@ -699,7 +699,7 @@ pub fn predecessors() {
     );
     open(
         Kind::Predecessor,
-        b"open, predecessor, births on 2, 3, 4, all live",
+        "open, predecessor, births on 2, 3, 4, all live",
         28,
         3,
         2,
@@ -707,7 +707,7 @@ pub fn predecessors() {
     );
     open(
         Kind::Predecessor,
-        b"open, predecessor, 4 by 2, two rows alike",
+        "open, predecessor, 4 by 2, two rows alike",
         8,
         4,
         2,
@@ -715,7 +715,7 @@ pub fn predecessors() {
     );
     open(
         Kind::Predecessor,
-        b"open, predecessor, 1 by 1, live",
+        "open, predecessor, 1 by 1, live",
         8,
         1,
         1,
@@ -723,7 +723,7 @@ pub fn predecessors() {
     );
     open(
         Kind::Predecessor,
-        b"open, predecessor, 10 by 60, live",
+        "open, predecessor, 10 by 60, live",
         8,
         10,
         60,
@@ -731,7 +731,7 @@ pub fn predecessors() {
     );
     open(
         Kind::Predecessor,
-        b"open, predecessor, 11 by 60, live",
+        "open, predecessor, 11 by 60, live",
         8,
         11,
         60,
@@ -739,7 +739,7 @@ pub fn predecessors() {
     );
     open(
         Kind::Predecessor,
-        b"open, predecessor, 12 by 60, live",
+        "open, predecessor, 12 by 60, live",
         8,
         12,
         60,
@@ -747,7 +747,7 @@ pub fn predecessors() {
     );
     open(
         Kind::Predecessor,
-        b"open, predecessor, 10 by 61, live",
+        "open, predecessor, 10 by 61, live",
         8,
         10,
         61,
@@ -755,7 +755,7 @@ pub fn predecessors() {
     );
 }
 
-fn open_ruled(name: &[u8], births: usize, survivals: usize) {
+fn open_ruled(name: &str, births: usize, survivals: usize) {
     open_under(
         Kind::Ordinary,
         name,
@@ -767,12 +767,12 @@ fn open_ruled(name: &[u8], births: usize, survivals: usize) {
 }
 
 // An opening under a rule with Conway's survivals.
-fn open(kind: Kind, name: &[u8], births: usize, w: usize, h: usize, givens: &[u8]) {
+fn open(kind: Kind, name: &str, births: usize, w: usize, h: usize, givens: &[u8]) {
     let survivals = 12;
     open_under(kind, name, Rule { births, survivals }, w, h, givens);
 }
 
-fn open_under(kind: Kind, name: &[u8], rule: Rule, w: usize, h: usize, givens: &[u8]) {
+fn open_under(kind: Kind, name: &str, rule: Rule, w: usize, h: usize, givens: &[u8]) {
     report::text(name);
     jobs::print_result(job::open(kind, rule, w, h, givens));
 }

@@ -11,46 +11,43 @@ const GRID: Grid = Grid {
 };
 
 pub fn resumptions() {
-    resume(b"resume, mark 3", GRID.paused(0, 3, [0, 0, 0]));
-    resume(b"resume, row 4 of width 2", GRID.paused(34, 0, [0, 4, 0]));
+    resume("resume, mark 3", GRID.paused(0, 3, [0, 0, 0]));
+    resume("resume, row 4 of width 2", GRID.paused(34, 0, [0, 4, 0]));
     let numbers = GRID.paused(0, 0, [0, 0, 0]);
     resume(
-        b"resume, births 9",
+        "resume, births 9",
         Checkpoint {
             births: 9,
             ..numbers
         },
     );
     resume(
-        b"resume, finished at unit 33 of 34",
+        "resume, finished at unit 33 of 34",
         GRID.paused(33, 1, [0, 0, 0]),
     );
-    resume(
-        b"resume, finished at unit 34",
-        GRID.paused(34, 1, [0, 0, 0]),
-    );
-    resume(b"resume, none at unit 33", GRID.paused(33, 2, [0, 0, 0]));
+    resume("resume, finished at unit 34", GRID.paused(34, 1, [0, 0, 0]));
+    resume("resume, none at unit 33", GRID.paused(33, 2, [0, 0, 0]));
 }
 
-fn resume(name: &[u8], numbers: Checkpoint) {
+fn resume(name: &str, numbers: Checkpoint) {
     report::text(name);
     jobs::print_result(numbers.resume(Kind::Ordinary));
 }
 
 pub fn pauses() {
-    pause(b"pause, width 11", wide(11).start());
+    pause("pause, width 11", wide(11).start());
     pause(
-        b"pause, unit 32 of 32 in filling",
+        "pause, unit 32 of 32 in filling",
         GRID.filling(32, [0, 0, 0]),
     );
-    pause(b"pause, births 9", with_births(GRID.start(), 9));
-    pause(b"pause, unit 31 in filling", GRID.filling(31, [0, 0, 0]));
+    pause("pause, births 9", with_births(GRID.start(), 9));
+    pause("pause, unit 31 in filling", GRID.filling(31, [0, 0, 0]));
 }
 
-fn pause(name: &[u8], job: Job) {
+fn pause(name: &str, job: Job) {
     report::text(name);
     match job.pause() {
-        Ok(numbers) => report::line(b": numbers at unit ", numbers.units),
+        Ok(numbers) => report::line(": numbers at unit ", numbers.units),
         Err(r) => report::refusal(r),
     }
 }

@@ -11,56 +11,56 @@ pub fn order() {
     let short = Lent::of(127, 5);
     let job = Grid::new(Kind::Predecessor, 3, 2).start();
     workings::work(
-        b"work, predecessor, width 11, and all below",
+        "work, predecessor, width 11, and all below",
         Grid::new(Kind::Predecessor, 11, 2).start(),
         &[1, 1, 1, 0, 2],
         short,
         9,
     );
     workings::work(
-        b"work, predecessor, unit 128 in filling, and all below",
+        "work, predecessor, unit 128 in filling, and all below",
         Grid::new(Kind::Predecessor, 3, 2).filling(128, [0, 0, 0]),
         &[1, 1, 1, 0, 2],
         short,
         9,
     );
     workings::work(
-        b"work, predecessor, births 9, and all below",
+        "work, predecessor, births 9, and all below",
         ordinary::with_births(job, 9),
         &[1, 1, 1, 0, 2],
         short,
         9,
     );
     workings::work(
-        b"work, predecessor, 5 cells of the target's 6, and all below",
+        "work, predecessor, 5 cells of the target's 6, and all below",
         job,
         &[1, 1, 1, 0, 2],
         short,
         9,
     );
     workings::work(
-        b"work, predecessor, 7 cells of the target's 6, and all below",
+        "work, predecessor, 7 cells of the target's 6, and all below",
         job,
         &[1, 1, 1, 0, 2, 0, 0],
         short,
         9,
     );
     workings::work(
-        b"work, predecessor, bytes 2 and 3, and all below",
+        "work, predecessor, bytes 2 and 3, and all below",
         job,
         &[1, 1, 1, 0, 2, 3],
         short,
         9,
     );
     workings::work(
-        b"work, predecessor, row 1 of 2, and all below",
+        "work, predecessor, row 1 of 2, and all below",
         job,
         &[2, 2, 2, 0, 0, 0],
         short,
         9,
     );
     workings::work(
-        b"work, predecessor, row 1 live, 5 cells of 6, and 127 entries",
+        "work, predecessor, row 1 live, 5 cells of 6, and 127 entries",
         job,
         &[1, 1, 1, 0, 0, 0],
         short,
@@ -73,21 +73,21 @@ pub fn memory() {
     let job = Grid::new(Kind::Predecessor, 3, 2).start();
     let target = [1, 1, 1, 0, 0, 0];
     workings::work(
-        b"work, predecessor, 7 cells of 6, and 127 entries",
+        "work, predecessor, 7 cells of 6, and 127 entries",
         job,
         &target,
         Lent::of(127, 7),
         9,
     );
     workings::work(
-        b"work, predecessor, 127 entries of 128",
+        "work, predecessor, 127 entries of 128",
         job,
         &target,
         Lent::of(127, 6),
         9,
     );
     workings::work(
-        b"work, predecessor, a byte 2, 128 entries",
+        "work, predecessor, a byte 2, 128 entries",
         job,
         &[1, 2, 1, 0, 0, 0],
         Lent::of(128, 6),
@@ -102,20 +102,20 @@ pub fn passes() {
     let block = [0, 1, 1, 0, 1, 1];
     let none = [1, 1, 1, 0, 0, 0];
     let more = Lent::of(140, 6);
-    workings::work(b"work, predecessor, allowance 0", job, &block, more, 0);
-    workings::work(b"work, predecessor, allowance 9", job, &block, more, 9);
-    workings::work(b"work, predecessor, allowance 128", job, &block, more, 128);
-    workings::work(b"work, predecessor, allowance 129", job, &block, more, 129);
-    workings::work(b"work, predecessor, allowance 130", job, &block, more, 130);
+    workings::work("work, predecessor, allowance 0", job, &block, more, 0);
+    workings::work("work, predecessor, allowance 9", job, &block, more, 9);
+    workings::work("work, predecessor, allowance 128", job, &block, more, 128);
+    workings::work("work, predecessor, allowance 129", job, &block, more, 129);
+    workings::work("work, predecessor, allowance 130", job, &block, more, 130);
     workings::work(
-        b"work, predecessor, no board, allowance 128",
+        "work, predecessor, no board, allowance 128",
         job,
         &none,
         more,
         128,
     );
     workings::work(
-        b"work, predecessor, no board, allowance 129",
+        "work, predecessor, no board, allowance 129",
         job,
         &none,
         more,
@@ -126,27 +126,27 @@ pub fn passes() {
 // Calls of one unit that chooses row 2 of 2 by 3 below row 3, which has to stay 3: rows 1, 2 and 3 can stand there. The entries are none but (2, 3, 1):
 // 600 counts and 601 does not.
 pub fn spoiled() {
-    choose(b"spoiled table, predecessor, 600", [600, 65535, 65535]);
-    choose(b"spoiled table, predecessor, 601", [601, 65535, 65535]);
-    choose(b"spoiled table, predecessor, none", [65535, 65535, 65535]);
+    choose("spoiled table, predecessor, 600", [600, 65535, 65535]);
+    choose("spoiled table, predecessor, 601", [601, 65535, 65535]);
+    choose("spoiled table, predecessor, none", [65535, 65535, 65535]);
 }
 
 // The same with entries (2, 3, 1), (2, 3, 2) and (2, 3, 3): the least sum of a row's live cells and its entry, among equals the smallest row.
 pub fn choices() {
-    choose(b"choice, predecessor, entries 5, 5, 4", [5, 5, 4]);
-    choose(b"choice, predecessor, entries 5, 5, 3", [5, 5, 3]);
-    choose(b"choice, predecessor, entries 5, 4, 4", [5, 4, 4]);
+    choose("choice, predecessor, entries 5, 5, 4", [5, 5, 4]);
+    choose("choice, predecessor, entries 5, 5, 3", [5, 5, 3]);
+    choose("choice, predecessor, entries 5, 4, 4", [5, 4, 4]);
     choose(
-        b"choice, predecessor, entries 601, 600, 599",
+        "choice, predecessor, entries 601, 600, 599",
         [601, 600, 599],
     );
     choose(
-        b"choice, predecessor, entries 601, 601, 600",
+        "choice, predecessor, entries 601, 601, 600",
         [601, 601, 600],
     );
 }
 
-fn choose(name: &[u8], entries: [u16; 3]) {
+fn choose(name: &str, entries: [u16; 3]) {
     let [first, second, third] = entries;
     let mut table = [65535u16; 48];
     table[29] = first;

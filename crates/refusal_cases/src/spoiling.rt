@@ -10,28 +10,28 @@ pub fn calls() {
     let mut table = [65535u16; 48];
     table[31] = 0;
     let mut board = [9u8; 6];
-    call(b"spoiled table, allowance 1", 49, 1, &mut table, &mut board);
-    call(b"spoiled table, allowance 2", 49, 2, &mut table, &mut board);
+    call("spoiled table, allowance 1", 49, 1, &mut table, &mut board);
+    call("spoiled table, allowance 2", 49, 2, &mut table, &mut board);
     call(
-        b"spoiled table, allowance 0 before the row",
+        "spoiled table, allowance 0 before the row",
         50,
         0,
         &mut table,
         &mut board,
     );
     call(
-        b"spoiled table, allowance 1 before the row",
+        "spoiled table, allowance 1 before the row",
         50,
         1,
         &mut table,
         &mut board,
     );
-    call(b"spoiled table, row 1", 48, 1, &mut table, &mut board);
-    print_memory(b"  entries that are not none: ", &table, 65535, &board);
+    call("spoiled table, row 1", 48, 1, &mut table, &mut board);
+    print_memory("  entries that are not none: ", &table, 65535, &board);
 }
 
 // A call on a job that chose rows 3 and 3, as far as it is.
-fn call(name: &[u8], units: usize, allowance: u32, table: &mut [u16], board: &mut [u8]) {
+fn call(name: &str, units: usize, allowance: u32, table: &mut [u16], board: &mut [u8]) {
     let above = if units == 50 { 3 } else { 0 };
     let last = if units == 48 { 0 } else { 3 };
     let job = Grid::new(Kind::Ordinary, 2, 3).choosing(units, [above, last, 0]);
@@ -39,9 +39,9 @@ fn call(name: &[u8], units: usize, allowance: u32, table: &mut [u16], board: &mu
 }
 
 // What calls left of a table whose entries were one number, and of a board.
-fn print_memory(name: &[u8], table: &[u16], usual: u16, board: &[u8]) {
+fn print_memory(name: &str, table: &[u16], usual: u16, board: &[u8]) {
     report::line(name, workings::count_unlike(table, usual));
-    report::line(b"  cells written: ", workings::count_unlike(board, 9));
+    report::line("  cells written: ", workings::count_unlike(board, 9));
 }
 
 // One of two layers, where every entry is 700, which counts as none. At unit 80 the last entry of layer 2 is filled again.
@@ -55,7 +55,7 @@ pub fn two_layers() {
     call_two(choosing, 0, &mut table, &mut board);
     call_two(choosing, 1, &mut table, &mut board);
     call_two(ROUNDS.choosing(48, [0, 0, 0]), 1, &mut table, &mut board);
-    print_memory(b"  entries that are not 700: ", &table, 700, &board);
+    print_memory("  entries that are not 700: ", &table, 700, &board);
 }
 
 // Rows 1 and 3 are chosen by the layer in half 1, from place 16 on, and row 2 by that in half 0: the only entry that counts is (1, 0, 3), (2, 3, 3)
@@ -80,12 +80,12 @@ fn choose(job: Job, place: usize) {
     }
     let mut board = [9u8; 6];
     call_two(job, 1, &mut table, &mut board);
-    print_memory(b"  entries that are not none: ", &table, 65535, &board);
+    print_memory("  entries that are not none: ", &table, 65535, &board);
 }
 
 fn call_two(job: Job, allowance: u32, table: &mut [u16], board: &mut [u8]) {
     workings::call(
-        b"spoiled table, two layers",
+        "spoiled table, two layers",
         job,
         &[0; 6],
         table,

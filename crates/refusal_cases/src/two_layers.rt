@@ -11,35 +11,35 @@ pub fn order() {
     let short = Lent::of(127, 5);
     let job = Grid::new(Kind::TwoLayers, 3, 2).start();
     workings::work(
-        b"work, two layers, choosing at unit 0, and all below",
+        "work, two layers, choosing at unit 0, and all below",
         Grid::new(Kind::TwoLayers, 3, 2).choosing(0, [0, 0, 0]),
         &[2, 2, 2, 0, 3],
         short,
         9,
     );
     workings::work(
-        b"work, two layers, 5 givens of 6, and all below",
+        "work, two layers, 5 givens of 6, and all below",
         job,
         &[2, 2, 2, 0, 3],
         short,
         9,
     );
     workings::work(
-        b"work, two layers, a mark 3, and all below",
+        "work, two layers, a mark 3, and all below",
         job,
         &[2, 2, 2, 0, 3, 0],
         short,
         9,
     );
     workings::work(
-        b"work, two layers, row 1 given live, and all below",
+        "work, two layers, row 1 given live, and all below",
         job,
         &[2, 2, 2, 0, 0, 0],
         short,
         9,
     );
     workings::work(
-        b"work, two layers, 5 cells of 6, and 127 entries",
+        "work, two layers, 5 cells of 6, and 127 entries",
         job,
         &[0; 6],
         short,
@@ -51,22 +51,22 @@ pub fn order() {
 pub fn memory() {
     let grid = Grid::new(Kind::TwoLayers, 3, 2);
     work(
-        b"work, two layers, 7 cells of 6, and 127 entries",
+        "work, two layers, 7 cells of 6, and 127 entries",
         grid,
         Lent::of(127, 7),
         9,
     );
     work(
-        b"work, two layers, 127 entries of 128",
+        "work, two layers, 127 entries of 128",
         grid,
         Lent::of(127, 6),
         9,
     );
-    work(b"work, two layers, 128 entries", grid, Lent::of(128, 6), 9);
+    work("work, two layers, 128 entries", grid, Lent::of(128, 6), 9);
 }
 
 // A call on a job at unit 0 of a free grid.
-fn work(name: &[u8], grid: Grid, lent: Lent, allowance: u32) {
+fn work(name: &str, grid: Grid, lent: Lent, allowance: u32) {
     let givens = [0; 60];
     let n = grid.w.wrapping_mul(grid.h).min(60);
     workings::work(name, grid.start(), &givens[..n], lent, allowance);
@@ -76,26 +76,26 @@ fn work(name: &[u8], grid: Grid, lent: Lent, allowance: u32) {
 pub fn low() {
     let ordinary = Grid::new(Kind::Ordinary, 2, 1);
     work(
-        b"work, 2 by 1, 15 entries of 16",
+        "work, 2 by 1, 15 entries of 16",
         ordinary,
         Lent::of(15, 2),
         1000,
     );
-    work(b"work, 2 by 1, 16 entries", ordinary, Lent::of(16, 2), 1000);
+    work("work, 2 by 1, 16 entries", ordinary, Lent::of(16, 2), 1000);
     work(
-        b"work, two layers, 2 by 1, 16 entries of 32",
+        "work, two layers, 2 by 1, 16 entries of 32",
         Grid::new(Kind::TwoLayers, 2, 1),
         Lent::of(16, 2),
         1000,
     );
     work(
-        b"work, two layers, 2 by 1, 31 entries of 32",
+        "work, two layers, 2 by 1, 31 entries of 32",
         Grid::new(Kind::TwoLayers, 2, 1),
         Lent::of(31, 2),
         1000,
     );
     work(
-        b"work, two layers, 2 by 1, 32 entries",
+        "work, two layers, 2 by 1, 32 entries",
         Grid::new(Kind::TwoLayers, 2, 1),
         Lent::of(32, 2),
         1000,
@@ -106,32 +106,32 @@ pub fn low() {
 pub fn high() {
     let ordinary = Grid::new(Kind::Ordinary, 2, 3);
     work(
-        b"work, 2 by 3, 32 entries of 48",
+        "work, 2 by 3, 32 entries of 48",
         ordinary,
         Lent::of(32, 6),
         1000,
     );
     work(
-        b"work, 2 by 3, 47 entries of 48",
+        "work, 2 by 3, 47 entries of 48",
         ordinary,
         Lent::of(47, 6),
         1000,
     );
-    work(b"work, 2 by 3, 48 entries", ordinary, Lent::of(48, 6), 1000);
+    work("work, 2 by 3, 48 entries", ordinary, Lent::of(48, 6), 1000);
     work(
-        b"work, two layers, 2 by 3, 31 entries of 32",
+        "work, two layers, 2 by 3, 31 entries of 32",
         ROUNDS,
         Lent::of(31, 6),
         1000,
     );
     work(
-        b"work, two layers, 2 by 3, 32 entries",
+        "work, two layers, 2 by 3, 32 entries",
         ROUNDS,
         Lent::of(32, 6),
         1000,
     );
     work(
-        b"work, two layers, 2 by 3, 48 entries",
+        "work, two layers, 2 by 3, 48 entries",
         ROUNDS,
         Lent::of(48, 6),
         1000,
@@ -142,25 +142,20 @@ pub fn high() {
 pub fn highest() {
     let ordinary = Grid::new(Kind::Ordinary, 1, 60);
     work(
-        b"work, 1 by 60, 239 entries of 240",
+        "work, 1 by 60, 239 entries of 240",
         ordinary,
         Lent::of(239, 60),
         9,
     );
+    work("work, 1 by 60, 240 entries", ordinary, Lent::of(240, 60), 9);
     work(
-        b"work, 1 by 60, 240 entries",
-        ordinary,
-        Lent::of(240, 60),
-        9,
-    );
-    work(
-        b"work, two layers, 1 by 60, 7 entries of 8",
+        "work, two layers, 1 by 60, 7 entries of 8",
         Grid::new(Kind::TwoLayers, 1, 60),
         Lent::of(7, 60),
         9,
     );
     work(
-        b"work, two layers, 1 by 60, 8 entries",
+        "work, two layers, 1 by 60, 8 entries",
         Grid::new(Kind::TwoLayers, 1, 60),
         Lent::of(8, 60),
         9,
@@ -169,11 +164,11 @@ pub fn highest() {
 
 // On a grid of 2 by 2, where both kinds need as many.
 pub fn square() {
-    work_square(b"work, two layers, 31 entries of 32", &[0; 4], 31, 50);
-    work_square(b"work, two layers, 32 entries", &[0; 4], 32, 50);
+    work_square("work, two layers, 31 entries of 32", &[0; 4], 31, 50);
+    work_square("work, two layers, 32 entries", &[0; 4], 32, 50);
 }
 
-fn work_square(name: &[u8], givens: &[u8], entries: usize, allowance: u32) {
+fn work_square(name: &str, givens: &[u8], entries: usize, allowance: u32) {
     workings::work(
         name,
         Grid::new(Kind::TwoLayers, 2, 2).start(),
@@ -187,14 +182,14 @@ fn work_square(name: &[u8], givens: &[u8], entries: usize, allowance: u32) {
 pub fn passes() {
     let free = [0; 4];
     let none = [2, 1, 0, 0];
-    work_square(b"work, two layers, allowance 0", &free, 40, 0);
-    work_square(b"work, two layers, allowance 32", &free, 40, 32);
-    work_square(b"work, two layers, allowance 33", &free, 40, 33);
-    work_square(b"work, two layers, allowance 49", &free, 40, 49);
-    work_square(b"work, two layers, allowance 50", &free, 40, 50);
-    work_square(b"work, two layers, no board, allowance 32", &none, 40, 32);
-    work_square(b"work, two layers, no board, allowance 33", &none, 40, 33);
-    work_square(b"work, two layers, no board, allowance 50", &none, 40, 50);
+    work_square("work, two layers, allowance 0", &free, 40, 0);
+    work_square("work, two layers, allowance 32", &free, 40, 32);
+    work_square("work, two layers, allowance 33", &free, 40, 33);
+    work_square("work, two layers, allowance 49", &free, 40, 49);
+    work_square("work, two layers, allowance 50", &free, 40, 50);
+    work_square("work, two layers, no board, allowance 32", &none, 40, 32);
+    work_square("work, two layers, no board, allowance 33", &none, 40, 33);
+    work_square("work, two layers, no board, allowance 50", &none, 40, 50);
 }
 
 // Calls on jobs of 2 by 3 that have ended.
@@ -202,7 +197,7 @@ pub fn ended() {
     let job = ROUNDS.finished(99, 4);
     work_at(job, 9);
     workings::work(
-        b"work, two layers, 31 entries of 32",
+        "work, two layers, 31 entries of 32",
         job,
         &[0; 6],
         Lent::of(31, 6),
@@ -235,7 +230,7 @@ pub fn rows() {
 
 fn work_at(job: Job, allowance: u32) {
     workings::work(
-        b"work, two layers, 2 by 3",
+        "work, two layers, 2 by 3",
         job,
         &[0; 6],
         Lent::of(32, 6),

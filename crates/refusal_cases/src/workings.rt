@@ -20,21 +20,21 @@ impl Lent {
 pub fn jobs() {
     let grid = ordinary::wide(2);
     work(
-        b"work, width 11, and all below",
+        "work, width 11, and all below",
         ordinary::wide(11).start(),
         &[0, 3, 0],
         Lent::of(31, 3),
         9,
     );
     work(
-        b"work, unit 32 in filling, and all below",
+        "work, unit 32 in filling, and all below",
         grid.filling(32, [0, 0, 0]),
         &[0, 3, 0],
         Lent::of(31, 3),
         9,
     );
     work(
-        b"work, births 9, and all below",
+        "work, births 9, and all below",
         ordinary::with_births(grid.start(), 9),
         &[0, 3, 0],
         Lent::of(31, 3),
@@ -45,21 +45,21 @@ pub fn jobs() {
 pub fn givens() {
     let job = ordinary::wide(2).start();
     work(
-        b"work, givens 0, 3, 0 of 4, and all below",
+        "work, givens 0, 3, 0 of 4, and all below",
         job,
         &[0, 3, 0],
         Lent::of(31, 3),
         9,
     );
     work(
-        b"work, 5 givens of 4",
+        "work, 5 givens of 4",
         job,
         &[0, 3, 0, 0, 0],
         Lent::of(31, 3),
         9,
     );
     work(
-        b"work, givens 0, 3, 2, 4, and all below",
+        "work, givens 0, 3, 2, 4, and all below",
         job,
         &[0, 3, 2, 4],
         Lent::of(31, 3),
@@ -71,35 +71,35 @@ pub fn givens() {
 pub fn edge_threes() {
     let job = ordinary::wide(3).start();
     work(
-        b"work, row 1 of 3 by 2 given live, 5 givens of 6, and all below",
+        "work, row 1 of 3 by 2 given live, 5 givens of 6, and all below",
         job,
         &[2, 2, 2, 0, 0],
         Lent::of(31, 3),
         9,
     );
     work(
-        b"work, row 1 of 3 by 2 given live, a mark 3, and all below",
+        "work, row 1 of 3 by 2 given live, a mark 3, and all below",
         job,
         &[2, 2, 2, 0, 0, 3],
         Lent::of(31, 3),
         9,
     );
     work(
-        b"work, row 1 of 3 by 2 given live, and all below",
+        "work, row 1 of 3 by 2 given live, and all below",
         job,
         &[2, 2, 2, 0, 0, 0],
         Lent::of(31, 3),
         9,
     );
     work(
-        b"work, row 2 of 3 by 2 given live, births on 2, and all below",
+        "work, row 2 of 3 by 2 given live, births on 2, and all below",
         ordinary::with_births(job, 4),
         &[0, 0, 0, 2, 2, 2],
         Lent::of(31, 3),
         9,
     );
     work(
-        b"work, row 1 of 3 by 2 given live, births on 0 and 3, and all below",
+        "work, row 1 of 3 by 2 given live, births on 0 and 3, and all below",
         ordinary::with_births(job, 9),
         &[2, 2, 2, 0, 0, 0],
         Lent::of(31, 3),
@@ -108,24 +108,24 @@ pub fn edge_threes() {
 }
 
 pub fn memory() {
-    lend(b"work, 3 cells of 4, and 31 entries", Lent::of(31, 3), 9);
-    lend(b"work, 5 cells of 4, and 31 entries", Lent::of(31, 5), 9);
-    lend(b"work, 31 entries of 32", Lent::of(31, 4), 9);
+    lend("work, 3 cells of 4, and 31 entries", Lent::of(31, 3), 9);
+    lend("work, 5 cells of 4, and 31 entries", Lent::of(31, 5), 9);
+    lend("work, 31 entries of 32", Lent::of(31, 4), 9);
 }
 
 // Calls that pass.
 pub fn passes() {
-    lend(b"work, allowance 0", Lent::of(32, 4), 0);
-    lend(b"work, allowance 9", Lent::of(32, 4), 9);
-    lend(b"work, allowance 34", Lent::of(40, 4), 34);
+    lend("work, allowance 0", Lent::of(32, 4), 0);
+    lend("work, allowance 9", Lent::of(32, 4), 9);
+    lend("work, allowance 34", Lent::of(40, 4), 34);
 }
 
-fn lend(name: &[u8], lent: Lent, allowance: u32) {
+fn lend(name: &str, lent: Lent, allowance: u32) {
     work(name, ordinary::wide(2).start(), &[0; 4], lent, allowance);
 }
 
 // Makes a call, and prints how much it has written as well.
-pub fn work(name: &[u8], job: Job, givens: &[u8], lent: Lent, allowance: u32) {
+pub fn work(name: &str, job: Job, givens: &[u8], lent: Lent, allowance: u32) {
     let mut table = [700u16; 256];
     let mut board = [9u8; 64];
     let entries = lent.entries.min(256);
@@ -138,13 +138,13 @@ pub fn work(name: &[u8], job: Job, givens: &[u8], lent: Lent, allowance: u32) {
         &mut board[..cells],
         allowance,
     );
-    report::line(b"  entries written: ", count_unlike(&table, 700));
-    report::line(b"  cells written: ", count_unlike(&board, 9));
+    report::line("  entries written: ", count_unlike(&table, 700));
+    report::line("  cells written: ", count_unlike(&board, 9));
 }
 
 // Makes a call, and prints its answer and the job that it hands back.
 pub fn call(
-    name: &[u8],
+    name: &str,
     job: Job,
     givens: &[u8],
     table: &mut [u16],
@@ -154,20 +154,20 @@ pub fn call(
     let worked = solver::work(job, givens, table, board, allowance);
     report::text(name);
     match worked.status {
-        Ok(Status::Unfinished) => report::text(b": unfinished\n"),
-        Ok(Status::Finished(score)) => report::line(b": finished, score ", score),
-        Ok(Status::Infeasible) => report::text(b": none\n"),
+        Ok(Status::Unfinished) => report::text(": unfinished\n"),
+        Ok(Status::Finished(score)) => report::line(": finished, score ", score),
+        Ok(Status::Infeasible) => report::text(": none\n"),
         Err(r) => report::refusal(r),
     }
     jobs::print_job(worked.job);
 }
 
 // Makes a call of one unit that chooses a row, and prints how many cells it has written as well.
-pub fn choose(name: &[u8], job: Job, givens: &[u8], table: &mut [u16]) {
+pub fn choose(name: &str, job: Job, givens: &[u8], table: &mut [u16]) {
     let mut board = [9u8; 64];
     let cells = givens.len().min(64);
     call(name, job, givens, table, &mut board[..cells], 1);
-    report::line(b"  cells written: ", count_unlike(&board, 9));
+    report::line("  cells written: ", count_unlike(&board, 9));
 }
 
 // The entries of a table, or the cells of a board, that are not so.

@@ -13,17 +13,17 @@ struct Tally {
 }
 
 pub fn try_all() {
-    try_lines(b"every grid of 1 by 9 and 9 by 1: ", Rules::Conway);
-    try_lines(b"the same under pseudo-random rules: ", Rules::Random);
+    try_lines("every grid of 1 by 9 and 9 by 1: ", Rules::Conway);
+    try_lines("the same under pseudo-random rules: ", Rules::Random);
     try_random(
-        b"pseudo-random grids up to 4 by 4, a third live: ",
+        "pseudo-random grids up to 4 by 4, a third live: ",
         Rules::Conway,
     );
-    try_random(b"the same under pseudo-random rules: ", Rules::Random);
+    try_random("the same under pseudo-random rules: ", Rules::Random);
 }
 
 // Every grid of one column of nine cells, and of one row of nine.
-fn try_lines(name: &[u8], rules: Rules) {
+fn try_lines(name: &str, rules: Rules) {
     let mut t = Tally::default();
     for number in 0..19683usize {
         let rule = rules.rule(number);
@@ -34,7 +34,7 @@ fn try_lines(name: &[u8], rules: Rules) {
 }
 
 // 1,000 grids of each size up to 4 by 4, a third of their marks live.
-fn try_random(name: &[u8], rules: Rules) {
+fn try_random(name: &str, rules: Rules) {
     let mut t = Tally::default();
     for k in 0..16000usize {
         let number = pseudo_random::below(43046721, k, 700000);
@@ -43,11 +43,11 @@ fn try_random(name: &[u8], rules: Rules) {
     print(name, t);
 }
 
-fn print(name: &[u8], t: Tally) {
+fn print(name: &str, t: Tally) {
     report::line(name, t.grids);
-    report::line(b"  with an edge three: ", t.found);
-    report::line(b"  jobs of both kinds: ", t.grids.wrapping_mul(2));
-    report::line(b"  differences from runs of live marks: ", t.wrong);
+    report::line("  with an edge three: ", t.found);
+    report::line("  jobs of both kinds: ", t.grids.wrapping_mul(2));
+    report::line("  differences from runs of live marks: ", t.wrong);
 }
 
 // A grid, opened and worked on by both kinds.
@@ -62,7 +62,7 @@ fn try_number(rule: Rule, w: usize, h: usize, number: usize, t: &mut Tally) {
         trials::count(&mut t.found);
     }
     if !is_answered(&case) || !is_answered(&two) {
-        case.differs(b"an edge three", &mut t.wrong);
+        case.differs("an edge three", &mut t.wrong);
     }
 }
 

@@ -25,48 +25,48 @@ struct Counts {
 
 // Every small grid, and then pseudo-random ones: under Conway's rule, under others with a name, and under pseudo-random ones, another for each grid.
 pub fn try_all() {
-    print(b"every grid up to 3 by 3: ", try_every());
-    try_random(b"pseudo-random grids up to 4 by 4: ", Rules::Conway);
+    print("every grid up to 3 by 3: ", try_every());
+    try_random("pseudo-random grids up to 4 by 4: ", Rules::Conway);
     try_random(
-        b"HighLife, pseudo-random grids up to 4 by 4: ",
+        "HighLife, pseudo-random grids up to 4 by 4: ",
         Rules::HighLife,
     );
     try_random(
-        b"Day & Night, pseudo-random grids up to 4 by 4: ",
+        "Day & Night, pseudo-random grids up to 4 by 4: ",
         Rules::DayAndNight,
     );
-    try_random(b"Seeds, pseudo-random grids up to 4 by 4: ", Rules::Seeds);
+    try_random("Seeds, pseudo-random grids up to 4 by 4: ", Rules::Seeds);
     try_random(
-        b"Life without death, pseudo-random grids up to 4 by 4: ",
+        "Life without death, pseudo-random grids up to 4 by 4: ",
         Rules::LifeWithoutDeath,
     );
     try_random(
-        b"pseudo-random rules and grids up to 4 by 4: ",
+        "pseudo-random rules and grids up to 4 by 4: ",
         Rules::Random,
     );
 }
 
-fn print(name: &[u8], c: Counts) {
+fn print(name: &str, c: Counts) {
     report::line(name, c.grids);
-    report::line(b"  with a still board: ", c.boards);
-    report::line(b"  of them with several best: ", c.ties);
-    report::line(b"  with an edge three: ", c.edges);
+    report::line("  with a still board: ", c.boards);
+    report::line("  of them with several best: ", c.ties);
+    report::line("  with an edge three: ", c.edges);
     let none = c.grids.wrapping_sub(c.boards).wrapping_sub(c.edges);
-    report::line(b"  with none: ", none);
-    report::line(b"  differences over an edge three: ", c.wrong);
-    print_runs(b"  by ordinary jobs: ", c.ordinary);
-    print_runs(b"  by jobs of two layers: ", c.two_layers);
-    report::line(b"  differences between the kinds: ", c.apart);
+    report::line("  with none: ", none);
+    report::line("  differences over an edge three: ", c.wrong);
+    print_runs("  by ordinary jobs: ", c.ordinary);
+    print_runs("  by jobs of two layers: ", c.two_layers);
+    report::line("  differences between the kinds: ", c.apart);
 }
 
-fn print_runs(name: &[u8], r: Runs) {
+fn print_runs(name: &str, r: Runs) {
     report::line(name, r.jobs);
-    report::line(b"  differences from enumeration: ", r.wrong);
-    report::line(b"  working calls in pieces: ", r.calls);
-    report::line(b"  calls refused in between: ", r.refused);
-    report::line(b"  of them over an edge three: ", r.edges);
-    report::line(b"  resumptions refused as the other kind: ", r.others);
-    report::line(b"  differences from one run: ", r.unlike);
+    report::line("  differences from enumeration: ", r.wrong);
+    report::line("  working calls in pieces: ", r.calls);
+    report::line("  calls refused in between: ", r.refused);
+    report::line("  of them over an edge three: ", r.edges);
+    report::line("  resumptions refused as the other kind: ", r.others);
+    report::line("  differences from one run: ", r.unlike);
 }
 
 // Every grid of widths and heights 1 to 3: of so many cells 3 to that power.
@@ -83,7 +83,7 @@ fn try_every() -> Counts {
 }
 
 // 200 grids of each size.
-fn try_random(name: &[u8], rules: Rules) {
+fn try_random(name: &str, rules: Rules) {
     let mut c = Counts::default();
     for k in 0..3200usize {
         let size = Size::new(Kind::Ordinary, k / 200 % 4 + 1, k / 200 / 4 + 1);
@@ -105,7 +105,7 @@ fn try_grid(case: &Case, c: &mut Counts) {
         count(&mut c.edges);
         let refusal = Refusal::EdgeThree(place);
         if best.is_some() || !case.is_turned_away(refusal) || !two.is_turned_away(refusal) {
-            case.differs(b"an edge three", &mut c.wrong);
+            case.differs("an edge three", &mut c.wrong);
         }
         return;
     }
@@ -118,7 +118,7 @@ fn try_grid(case: &Case, c: &mut Counts) {
     let ordinary = runs::try_case(case, best, &mut c.ordinary);
     let two_layers = runs::try_case(&two, best, &mut c.two_layers);
     if !are_alike(ordinary, two_layers) {
-        case.differs(b"the answers or the boards of the two kinds", &mut c.apart);
+        case.differs("the answers or the boards of the two kinds", &mut c.apart);
     }
 }
 

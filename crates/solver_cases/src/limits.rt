@@ -16,19 +16,19 @@ struct Ends {
 
 pub fn try_all() {
     try_kind(
-        b"ordinary jobs of 10 by 60, 10 by 1, 1 by 60 and 1 by 1, numbers taken beside their ends: ",
+        "ordinary jobs of 10 by 60, 10 by 1, 1 by 60 and 1 by 1, numbers taken beside their ends: ",
         Kind::Ordinary,
         62914620,
         300,
     );
     try_kind(
-        b"jobs of two layers of the same sizes, numbers taken beside their ends: ",
+        "jobs of two layers of the same sizes, numbers taken beside their ends: ",
         Kind::TwoLayers,
         1918894140,
         7380,
     );
     try_kind(
-        b"predecessor jobs of the same sizes, numbers taken beside their ends: ",
+        "predecessor jobs of the same sizes, numbers taken beside their ends: ",
         Kind::Predecessor,
         62914620,
         300,
@@ -36,7 +36,7 @@ pub fn try_all() {
 }
 
 // The lengths of 10 by 60 and 1 by 60 are each kind's own.
-fn try_kind(name: &[u8], kind: Kind, wide: usize, narrow: usize) {
+fn try_kind(name: &str, kind: Kind, wide: usize, narrow: usize) {
     let mut t = Tally::default();
     let ends = [
         (10, 60, wide, 62914561),
@@ -55,8 +55,8 @@ fn try_kind(name: &[u8], kind: Kind, wide: usize, narrow: usize) {
         try_limit(x, &mut t);
     }
     report::line(name, t.taken);
-    report::line(b"  refused: ", (4 * 24 * 2usize).wrapping_sub(t.taken));
-    report::line(b"  differences from the lengths: ", t.wrong);
+    report::line("  refused: ", (4 * 24 * 2usize).wrapping_sub(t.taken));
+    report::line("  differences from the lengths: ", t.wrong);
 }
 
 // One unit before, at and after either end, under each mark and one past the last, resumed as its own kind and as another.

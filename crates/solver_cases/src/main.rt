@@ -15,20 +15,20 @@ fn main() {
     grids::try_all();
     edge_threes::try_all();
     try_forged(
-        b"forged jobs: ",
-        b"forged jobs under other rules: ",
+        "forged jobs: ",
+        "forged jobs under other rules: ",
         Kind::Ordinary,
     );
     try_forged(
-        b"forged jobs of two layers: ",
-        b"forged jobs of two layers under other rules: ",
+        "forged jobs of two layers: ",
+        "forged jobs of two layers under other rules: ",
         Kind::TwoLayers,
     );
     numbers::try_all();
     limits::try_all();
 }
 
-fn try_forged(name: &[u8], other_rules: &[u8], kind: Kind) {
+fn try_forged(name: &str, other_rules: &str, kind: Kind) {
     let _ = forged::try_jobs(name, kind, Rules::Conway, 6000);
     let _ = forged::try_jobs(other_rules, kind, Rules::Random, 6000);
 }

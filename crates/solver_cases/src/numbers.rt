@@ -15,23 +15,23 @@ pub struct Tally {
 pub fn try_all() {
     try_kind(
         Kind::Ordinary,
-        b"numbers around the rules that resuming takes: ",
-        b"jobs around the rules that pausing takes: ",
+        "numbers around the rules that resuming takes: ",
+        "jobs around the rules that pausing takes: ",
     );
     try_kind(
         Kind::TwoLayers,
-        b"numbers around the rules of two layers that resuming takes: ",
-        b"jobs of two layers around the rules that pausing takes: ",
+        "numbers around the rules of two layers that resuming takes: ",
+        "jobs of two layers around the rules that pausing takes: ",
     );
     try_kind(
         Kind::Predecessor,
-        b"numbers around the rules of predecessor jobs that resuming takes: ",
-        b"predecessor jobs around the rules that pausing takes: ",
+        "numbers around the rules of predecessor jobs that resuming takes: ",
+        "predecessor jobs around the rules that pausing takes: ",
     );
     try_kinds();
 }
 
-fn try_kind(kind: Kind, resuming: &[u8], pausing: &[u8]) {
+fn try_kind(kind: Kind, resuming: &str, pausing: &str) {
     let mut resumed = Tally::default();
     let mut paused = Tally::default();
     for k in 0..50000usize {
@@ -59,17 +59,11 @@ fn try_kinds() {
         );
     }
     print(
-        b"numbers of either kind or none that resuming as an ordinary job takes: ",
+        "numbers of either kind or none that resuming as an ordinary job takes: ",
         ordinary,
     );
-    print(
-        b"the same that resuming as a job of two layers takes: ",
-        two,
-    );
-    print(
-        b"jobs of either kind with them that pausing takes: ",
-        paused,
-    );
+    print("the same that resuming as a job of two layers takes: ", two);
+    print("jobs of either kind with them that pausing takes: ", paused);
 }
 
 fn random_kind(seed: usize, place: usize) -> Kind {
@@ -90,10 +84,10 @@ fn with_any_kind(c: Checkpoint, seed: usize) -> Checkpoint {
     Checkpoint { kind, ..c }
 }
 
-fn print(name: &[u8], t: Tally) {
+fn print(name: &str, t: Tally) {
     report::line(name, t.taken);
-    report::line(b"  refused: ", 50000usize.wrapping_sub(t.taken));
-    report::line(b"  differences from the rules: ", t.wrong);
+    report::line("  refused: ", 50000usize.wrapping_sub(t.taken));
+    report::line("  differences from the rules: ", t.wrong);
 }
 
 // Resumes numbers as a kind.
@@ -129,16 +123,16 @@ pub fn count(taken: bool, answer: Option<bool>, numbers: Checkpoint, t: &mut Tal
 
 // Prints a difference with its numbers.
 fn print_difference(c: Checkpoint) {
-    report::line(b"difference: width ", c.width);
-    report::line(b"  height ", c.height);
-    report::line(b"  units ", c.units);
-    report::line(b"  row above ", c.above);
-    report::line(b"  last row ", c.last);
-    report::line(b"  live ", c.live);
-    report::line(b"  mark ", c.mark);
-    report::line(b"  births ", c.births);
-    report::line(b"  survivals ", c.survivals);
-    report::line(b"  kind ", c.kind);
+    report::line("difference: width ", c.width);
+    report::line("  height ", c.height);
+    report::line("  units ", c.units);
+    report::line("  row above ", c.above);
+    report::line("  last row ", c.last);
+    report::line("  live ", c.live);
+    report::line("  mark ", c.mark);
+    report::line("  births ", c.births);
+    report::line("  survivals ", c.survivals);
+    report::line("  kind ", c.kind);
 }
 
 // Whether resuming as a kind takes numbers: none where it refuses them by another number than 7, or something is lost of them.

@@ -5,6 +5,7 @@
 use board::Refusal;
 use job::{Job, Stage};
 use job_kind::Kind;
+use std::fmt::Write;
 
 fn main() {
     let mut table = [0u16; 2359296]; // side 9's, 9 × 4^9, and more than the two layers of side 10
@@ -20,16 +21,15 @@ fn squares(table: &mut [u16]) {
 // Solves a free square, and prints what it came to.
 fn square(side: usize, table: &mut [u16]) {
     let mut board = [9u8; 100];
-    report::text(b"side ");
-    report::number(side);
+    let _ = write!(report::Output, "side {side}");
     if side == 10 {
-        report::text(b", two layers");
+        report::text(", two layers");
         let _ = solve(Kind::TwoLayers, side, table, &mut board);
-        report::text(b"\n");
+        report::text("\n");
         return;
     }
     let score = solve(Kind::Ordinary, side, table, &mut board);
-    report::text(b"\n");
+    report::text("\n");
     if side == 3 {
         print_rows(&board);
     }
@@ -39,14 +39,14 @@ fn square(side: usize, table: &mut [u16]) {
 // Solves a square by two layers, and says whether that comes to the score and the board of the ordinary job.
 fn solve_again(side: usize, score: Option<usize>, board: &[u8], table: &mut [u16]) {
     let mut again = [9u8; 100];
-    report::text(b"  two layers");
+    report::text("  two layers");
     if solve(Kind::TwoLayers, side, table, &mut again) != score {
-        report::text(b", another score");
+        report::text(", another score");
     }
     if board == &again {
-        report::text(b", the same board\n");
+        report::text(", the same board\n");
     } else {
-        report::text(b", another board\n");
+        report::text(", another board\n");
     }
 }
 
@@ -96,16 +96,14 @@ fn print(job: Job, board: &[u8]) -> Option<usize> {
     };
     match score {
         Some(n) => {
-            report::text(b": score ");
-            report::number(n);
+            let _ = write!(report::Output, ": score {n}");
         }
-        None => report::text(b": not finished"),
+        None => report::text(": not finished"),
     }
-    report::text(b", units ");
-    report::number(job.units);
+    let _ = write!(report::Output, ", units {}", job.units);
     match life::judge(job.rule, job.width, job.height, board) {
-        Ok(None) => report::text(b", still"),
-        Ok(Some(_)) => report::text(b", not still"),
+        Ok(None) => report::text(", still"),
+        Ok(Some(_)) => report::text(", not still"),
         Err(r) => report::refusal(r),
     }
     score
@@ -113,10 +111,10 @@ fn print(job: Job, board: &[u8]) -> Option<usize> {
 
 // The rows of a board of width 3, as numbers.
 fn print_rows(board: &[u8]) {
-    report::text(b"  rows");
+    report::text("  rows");
     for r in 0..3usize {
-        report::text(b" ");
-        report::number(trials::plain::number_of(board, 3 * r, 3));
+        let row = trials::plain::number_of(board, 3 * r, 3);
+        let _ = write!(report::Output, " {row}");
     }
-    report::text(b"\n");
+    report::text("\n");
 }

@@ -11,6 +11,7 @@ use job::Job;
 use job_kind::Kind;
 use rule::Rule;
 use solver::Status;
+use std::fmt::Write;
 
 // More cells than any size tried has.
 pub const CELLS: usize = 128;
@@ -141,22 +142,22 @@ impl Case {
     }
 
     // Prints a difference with the case, and counts it.
-    pub fn differs(&self, what: &[u8], count: &mut usize)
+    pub fn differs(&self, what: &str, count: &mut usize)
         ensures { count.new ≡ min (count.old + 1) (2 ^ 64 - 1) }
     {
         counts::count(count);
-        report::text(b"difference: ");
-        report::text(what);
-        report::line(b"\n  births ", self.rule.births);
-        report::line(b"  survivals ", self.rule.survivals);
-        report::text(b"  ");
-        report::number(self.size.w);
-        report::text(b" by ");
-        report::number(self.size.h);
-        report::text(b", givens ");
+        report::line("difference: ", what);
+        report::line("  births ", self.rule.births);
+        report::line("  survivals ", self.rule.survivals);
+        let _ = write!(
+            report::Output,
+            "  {} by {}, givens ",
+            self.size.w,
+            self.size.h
+        );
         for x in self.givens.iter().take(self.size.cells) {
-            report::number(*x as usize);
+            let _ = write!(report::Output, "{x}");
         }
-        report::text(b"\n");
+        report::text("\n");
     }
 }

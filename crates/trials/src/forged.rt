@@ -41,7 +41,7 @@ struct Pair {
 }
 
 // Forged jobs of a kind under some rules, so many, each with its leftovers: prints what was tried. The number that differ.
-pub fn try_jobs(name: &[u8], kind: Kind, rules: Rules, jobs: usize) -> usize
+pub fn try_jobs(name: &str, kind: Kind, rules: Rules, jobs: usize) -> usize
     ensures { result ≤ jobs }
 {
     let mut t = Tally::default();
@@ -55,39 +55,39 @@ pub fn try_jobs(name: &[u8], kind: Kind, rules: Rules, jobs: usize) -> usize
     }
     report::line(name, jobs);
     print(kind, t);
-    report::line(b"  differences from a plain unit: ", wrong);
+    report::line("  differences from a plain unit: ", wrong);
     wrong
 }
 
 // The counts that a kind can have.
 fn print(kind: Kind, t: Tally) {
-    report::line(b"  resumed before row 1, filling: ", t.filling);
+    report::line("  resumed before row 1, filling: ", t.filling);
     if kind == Kind::Ordinary || kind == Kind::TwoLayers {
-        report::line(b"  resumed after a row, filling again: ", t.again);
+        report::line("  resumed after a row, filling again: ", t.again);
     }
-    report::line(b"  resumed at a row to be chosen: ", t.choosing);
+    report::line("  resumed at a row to be chosen: ", t.choosing);
     if kind != Kind::Mirror {
-        report::line(b"  resumed at the end: ", t.ended);
+        report::line("  resumed at the end: ", t.ended);
     }
     if kind != Kind::Predecessor {
-        report::line(b"  over an edge three: ", t.edges);
+        report::line("  over an edge three: ", t.edges);
     }
-    report::line(b"  working calls: ", t.calls);
+    report::line("  working calls: ", t.calls);
     match kind {
-        Kind::Mirror => report::line(b"  entries written of 601 to 1,200: ", t.great),
-        Kind::Predecessor => report::line(b"  entries written above 600: ", t.great),
+        Kind::Mirror => report::line("  entries written of 601 to 1,200: ", t.great),
+        Kind::Predecessor => report::line("  entries written above 600: ", t.great),
         _ => {}
     }
-    report::line(b"  refused for a spoiled table: ", t.spoiled);
-    report::line(b"  finished: ", t.finished);
-    report::line(b"  none: ", t.none);
+    report::line("  refused for a spoiled table: ", t.spoiled);
+    report::line("  finished: ", t.finished);
+    report::line("  none: ", t.none);
 }
 
 // Resumes a job of random numbers, and tries it.
-fn first_difference(case: &Case, t: &mut Tally) -> Option<&'static [u8]> {
+fn first_difference(case: &Case, t: &mut Tally) -> Option<&'static str> {
     let numbers = random_numbers(case);
     let Ok(job) = numbers.resume(case.size.kind) else {
-        return Some(b"a job that resuming refuses");
+        return Some("a job that resuming refuses");
     };
     count_stage(case.size, numbers, t);
     match case.edge_three() {
@@ -105,14 +105,14 @@ fn first_difference(case: &Case, t: &mut Tally) -> Option<&'static [u8]> {
     for k in 0..6usize {
         let allowance = allowances::random(case.size.fills, case.seed, k + 600000);
         if !try_call(case, allowance, &mut p, t) {
-            return Some(b"a call on a forged job");
+            return Some("a call on a forged job");
         }
     }
     None
 }
 
 // A call over an edge three is refused.
-fn over_edge(case: &Case, job: Job, refusal: Refusal) -> Option<&'static [u8]> {
+fn over_edge(case: &Case, job: Job, refusal: Refusal) -> Option<&'static str> {
     let call = calls::Call {
         case: *case,
         job,
@@ -122,7 +122,7 @@ fn over_edge(case: &Case, job: Job, refusal: Refusal) -> Option<&'static [u8]> {
     if calls::is_refused(&call, &Memory::spoiled(case)) {
         return None;
     }
-    Some(b"a forged job over an edge three")
+    Some("a forged job over an edge three")
 }
 
 // Counts the stage that a job is resumed in.

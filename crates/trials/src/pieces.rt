@@ -58,16 +58,16 @@ fn first_difference(
     best: Option<Best>,
     t: &mut Turn,
     one: &Memory,
-) -> Option<&'static [u8]> {
+) -> Option<&'static str> {
     if let Some(what) = all_turns(case, best, t) {
         return Some(what);
     }
     if !stays_ended(case, best, t) {
-        return Some(b"a call after the end");
+        return Some("a call after the end");
     }
     let written = calls::written(case.size, best);
     if !t.memory.is_written_as(one, case.size, written) || !t.memory.is_kept(case, written) {
-        return Some(b"the memory left in pieces");
+        return Some("the memory left in pieces");
     }
     None
 }
@@ -79,7 +79,7 @@ fn stays_ended(case: &Case, best: Option<Best>, t: &Turn) -> bool {
 }
 
 // Turns until the job ends or differs.
-fn all_turns(case: &Case, best: Option<Best>, t: &mut Turn) -> Option<&'static [u8]> {
+fn all_turns(case: &Case, best: Option<Best>, t: &mut Turn) -> Option<&'static str> {
     let units = calls::length(case.size, best);
     for _ in 0..100000 {
         if let Some(what) = next_turn(case, best, t) {
@@ -89,17 +89,17 @@ fn all_turns(case: &Case, best: Option<Best>, t: &mut Turn) -> Option<&'static [
             return None;
         }
     }
-    Some(b"a run that does not end")
+    Some("a run that does not end")
 }
 
 // One turn: a pause and a resumption, perhaps a call that must be refused, and a working call. Whether it differs.
-fn next_turn(case: &Case, best: Option<Best>, t: &mut Turn) -> Option<&'static [u8]> {
+fn next_turn(case: &Case, best: Option<Best>, t: &mut Turn) -> Option<&'static str> {
     if jobs::resumed(t.job) != Ok(t.job) {
-        return Some(b"a job resumed");
+        return Some("a job resumed");
     }
     if let Some(fault) = faults::random_fault(case, t.so_far.calls, t.job.units) {
         if !is_refused(case, fault, t) {
-            return Some(b"a call to be refused, or a resumption as another kind");
+            return Some("a call to be refused, or a resumption as another kind");
         }
         count_refused(fault, &mut t.so_far);
     }
@@ -128,7 +128,7 @@ fn count_refused(fault: Fault, p: &mut Pieces) {
 
 // The working call of a turn. At every third one the table has no entry to spare. The units are the allowances' sum, but no more than the job's
 // length.
-fn work_on(case: &Case, best: Option<Best>, t: &mut Turn) -> Option<&'static [u8]> {
+fn work_on(case: &Case, best: Option<Best>, t: &mut Turn) -> Option<&'static str> {
     let allowance = allowances::random(case.size.fills, case.seed, t.so_far.calls);
     let lent = Lent::with_spare(case.size, t.so_far.calls % 3);
     let r = calls::work(case, t.job, lent, t.memory, allowance);
@@ -145,5 +145,5 @@ fn work_on(case: &Case, best: Option<Best>, t: &mut Turn) -> Option<&'static [u8
     if r.status == Ok(status) && r.job.units == length.min(t.sum) {
         return None;
     }
-    Some(b"the answer or the units of a piece")
+    Some("the answer or the units of a piece")
 }

@@ -29,7 +29,7 @@ pub fn try_case(case: &Case, best: Option<Best>, runs: &mut Runs) -> Option<Afte
 {
     counts::count(&mut runs.jobs);
     let Ok(job) = case.open() else {
-        case.differs(b"the opening", &mut runs.wrong);
+        case.differs("the opening", &mut runs.wrong);
         return None;
     };
     let r = calls::work(
@@ -57,18 +57,18 @@ pub fn try_case(case: &Case, best: Option<Best>, runs: &mut Runs) -> Option<Afte
 }
 
 // What differs where a run answered anything else than enumeration found, left another board, or wrote anything but what it needs.
-fn difference(case: &Case, best: Option<Best>, r: &After) -> Option<&'static [u8]> {
+fn difference(case: &Case, best: Option<Best>, r: &After) -> Option<&'static str> {
     let s = case.size;
     if r.status != Ok(calls::end_of(best)) || r.job.units != calls::length(s, best) {
-        return Some(b"the answer, or the units");
+        return Some("the answer, or the units");
     }
     if let Some(b) = best {
         if !r.memory.is_board(s.cells, b.board) {
-            return Some(b"the board");
+            return Some("the board");
         }
     }
     if !r.memory.is_kept(case, calls::written(s, best)) {
-        return Some(b"memory past the table or the board, or a board for none");
+        return Some("memory past the table or the board, or a board for none");
     }
     None
 }

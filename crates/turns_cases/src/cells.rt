@@ -1,6 +1,8 @@
 // Cells by rows and columns: a grid's marks, a board's states, or a list of numbers.
 ghost use Rattle.std.specs.Prelude.{◌≤◌};
 
+use std::fmt::Write;
+
 // More than any size tried has.
 pub const CELLS: usize = 32;
 
@@ -70,8 +72,8 @@ pub fn list(w: usize, h: usize) -> Cells {
 pub fn print(a: Cells) {
     for (k, x) in a.at.iter().take(count(a.w, a.h)).enumerate() {
         if column(a.w, k) == 0 {
-            report::text(b" ");
+            report::text(" ");
         }
-        report::number(*x as usize);
+        let _ = write!(report::Output, "{x}");
     }
 }

@@ -2,6 +2,7 @@
 // one step, which says where each cell goes.
 use crate::cells;
 use crate::cells::Cells;
+use std::fmt::Write;
 
 // Left and right exchanged or not, and then quarter turns clockwise, 0 to 3.
 #[derive(Clone, Copy)]
@@ -21,10 +22,9 @@ pub fn numbered(n: usize) -> Turn {
 // Prints a turn.
 pub fn print(t: Turn) {
     if t.reflected {
-        report::text(b", left and right exchanged");
+        report::text(", left and right exchanged");
     }
-    report::text(b", quarter turns ");
-    report::number(t.quarters);
+    let _ = write!(report::Output, ", quarter turns {}", t.quarters);
 }
 
 // The turn that is t and then u.

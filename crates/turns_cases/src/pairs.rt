@@ -19,17 +19,17 @@ pub fn print_turns(w: usize, h: usize) {
     let list = cells::list(w, h);
     for n in 0..8 {
         let t = eight_turns::numbered(n);
-        report::text(b"the list");
+        report::text("the list");
         cells::print(list);
         eight_turns::print(t);
-        report::text(b":");
+        report::text(":");
         cells::print(eight_turns::by_steps(t, list));
-        report::text(b"\n");
+        report::text("\n");
     }
 }
 
 // All pairs of turns, and each turn with its inverse, on the list of a size.
-pub fn try_list(name: &[u8], w: usize, h: usize) {
+pub fn try_list(name: &str, w: usize, h: usize) {
     let list = cells::list(w, h);
     let mut t = Tally::default();
     for n in 0..64 {
@@ -44,9 +44,9 @@ pub fn try_list(name: &[u8], w: usize, h: usize) {
         try_inverse(eight_turns::numbered(n), list, &mut t);
     }
     report::line(name, t.pairs);
-    report::line(b"  turns of the eight that give the same: ", t.alike);
-    report::line(b"  turns with their inverses: ", t.inverses);
-    report::line(b"  differences: ", t.wrong);
+    report::line("  turns of the eight that give the same: ", t.alike);
+    report::line("  turns with their inverses: ", t.inverses);
+    report::line("  differences: ", t.wrong);
 }
 
 // Turned by one turn and then by another, in both ways: the turn that `then` names gives the same.

@@ -35,21 +35,21 @@ struct Tally {
     wrong: usize,
 }
 
-fn print(name: &[u8], t: Tally) {
+fn print(name: &str, t: Tally) {
     report::line(name, t.grids);
-    report::line(b"  turned grids solved: ", t.turned);
-    report::line(b"  of them in pieces: ", t.pieces);
-    report::line(b"  of them by the other kind of job: ", t.others);
-    report::line(b"  with a board: ", t.boards);
-    report::line(b"  sum of their scores: ", t.scores);
-    report::line(b"  with none: ", t.none);
-    report::line(b"  refused 14: ", t.edges);
-    report::line(b"  boards judged still: ", t.still);
-    report::line(b"  differences: ", t.wrong);
+    report::line("  turned grids solved: ", t.turned);
+    report::line("  of them in pieces: ", t.pieces);
+    report::line("  of them by the other kind of job: ", t.others);
+    report::line("  with a board: ", t.boards);
+    report::line("  sum of their scores: ", t.scores);
+    report::line("  with none: ", t.none);
+    report::line("  refused 14: ", t.edges);
+    report::line("  boards judged still: ", t.still);
+    report::line("  differences: ", t.wrong);
 }
 
 // The first grids of a group, under a rule.
-pub fn try_group(name: &[u8], group: Group, rule: Rule, end: usize) {
+pub fn try_group(name: &str, group: Group, rule: Rule, end: usize) {
     let mut t = Tally::default();
     for k in 0..end {
         try_grid(rule, k, grids::grid(group, k), &mut t);
@@ -109,7 +109,7 @@ fn try_turn(case: &Case, n: usize, t: &mut Tally) {
 // givens, and have the score.
 fn compare(case: &Case, turn: Turn, givens: Cells, own: Solution, t: &mut Tally) {
     if !answers::are_same(case.first.answer, own.answer) {
-        differ(b"the answer", case, turn, t);
+        differ("the answer", case, turn, t);
         return;
     }
     let Ok(best) = own.answer else {
@@ -124,7 +124,7 @@ fn compare(case: &Case, turn: Turn, givens: Cells, own: Solution, t: &mut Tally)
     t.scores = t.scores.wrapping_add(score);
     let board = eight_turns::at_once(turn, case.first.board);
     if !(fits(case, givens, board, score, t) & fits(case, givens, own.board, score, t)) {
-        differ(b"a board", case, turn, t);
+        differ("a board", case, turn, t);
     }
 }
 
@@ -138,14 +138,14 @@ fn fits(case: &Case, givens: Cells, board: Cells, score: usize, t: &mut Tally) -
 }
 
 // Prints a difference, and counts it.
-fn differ(what: &[u8], case: &Case, turn: Turn, t: &mut Tally) {
-    report::text(b"difference: ");
+fn differ(what: &str, case: &Case, turn: Turn, t: &mut Tally) {
+    report::text("difference: ");
     report::text(what);
-    report::line(b", births ", case.rule.births);
-    report::line(b"  survivals ", case.rule.survivals);
-    report::text(b"  givens");
+    report::line(", births ", case.rule.births);
+    report::line("  survivals ", case.rule.survivals);
+    report::text("  givens");
     cells::print(case.givens);
     eight_turns::print(turn);
-    report::text(b"\n");
+    report::text("\n");
     count(&mut t.wrong);
 }
