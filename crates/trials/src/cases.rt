@@ -1,5 +1,5 @@
 // A case to try: a rule, a size, and what is lent to be read.
-ghost use Rattle.std.specs.Prelude.{◌≡◌, ◌+◌, ◌-◌, ◌^◌, ◌<◌, IfSome, IsTrue, Ok, Err, min};
+ghost use Rattle.std.specs.Prelude.{◌≡◌, ◌+◌, ◌-◌, ◌^◌, ◌<◌, ◌≤◌, IfSome, IsTrue, Ok, Err, min};
 ghost use Rattle.job.specs.declared.Job.{Job};
 ghost use Rattle.trials.specs.Cases.{CaseOpens};
 
@@ -143,7 +143,8 @@ impl Case {
 
     // Prints a difference with the case, and counts it.
     pub fn differs(&self, what: &str, count: &mut usize)
-        ensures { count.new ≡ min (count.old + 1) (2 ^ 64 - 1) }
+        ensures counted { count.new ≡ min (count.old + 1) (2 ^ 64 - 1) }
+        ensures grows { count.old ≤ count.new }
     {
         counts::count(count);
         report::line("difference: ", what);

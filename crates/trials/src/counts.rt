@@ -3,13 +3,15 @@ ghost use Rattle.std.specs.Prelude.{◌≡◌, ◌+◌, ◌-◌, ◌^◌, ◌≤
 
 // One more.
 pub fn count(n: &mut usize)
-    ensures { n.new ≡ min (n.old + 1) (2 ^ 64 - 1) }
+    ensures counted { n.new ≡ min (n.old + 1) (2 ^ 64 - 1) }
+    ensures grows { n.old ≤ n.new }
 {
     add(n, 1);
 }
 
 pub(crate) fn add(n: &mut usize, more: usize)
-    ensures { n.new ≡ min (n.old + more) (2 ^ 64 - 1) }
+    ensures added { n.new ≡ min (n.old + more) (2 ^ 64 - 1) }
+    ensures grows { n.old ≤ n.new }
 {
     *n = n.saturating_add(more);
 }
