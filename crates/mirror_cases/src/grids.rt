@@ -1,15 +1,11 @@
 // Grids of givens against plain enumeration of mirror boards: each in one run, and again in pieces.
-use crate::calls::After;
-use crate::pieces::Pieces;
-use crate::plain::Best;
-use crate::sizes::Size;
-use crate::{calls, edge_threes, marks, memory, pieces, plain, random, rules, sizes};
+use board::Refusal;
 use job_kind::Kind;
-use rule::Rule;
-use std::num;
+use trials::runs::Runs;
+use trials::{Case, Rules, Size, count, plain, runs};
 
 // What was tried of a group of grids.
-#[derive(Clone, Copy)]
+#[derive(Clone, Copy, Default)]
 struct Counts {
     grids: usize,
     boards: usize,
@@ -22,278 +18,110 @@ struct Counts {
     // With one mark altered, so that they are lopsided, and differences of the answers to those.
     lopsided: usize,
     lopsided_wrong: usize,
-    // One run of each other grid, and its differences.
-    jobs: usize,
-    wrong: usize,
-    // In pieces: working calls that passed, calls refused, those of them over an edge three and over lopsided marks, resumptions as the other
-    // kinds, differences.
-    calls: usize,
-    refused: usize,
-    refused_edges: usize,
-    refused_lopsided: usize,
-    others: usize,
-    unlike: usize,
-}
-
-fn nothing() -> Counts {
-    Counts {
-        grids: 0,
-        boards: 0,
-        ties: 0,
-        edges: 0,
-        edges_wrong: 0,
-        lopsided: 0,
-        lopsided_wrong: 0,
-        jobs: 0,
-        wrong: 0,
-        calls: 0,
-        refused: 0,
-        refused_edges: 0,
-        refused_lopsided: 0,
-        others: 0,
-        unlike: 0,
-    }
+    // Of each other grid.
+    runs: Runs,
 }
 
 pub fn try_all() {
-    print(b"every mirror grid up to 6 by 3: ", try_every());
-    try_random(b"pseudo-random mirror grids up to 6 by 4: ", 0);
-    try_random(b"Day & Night, pseudo-random mirror grids up to 6 by 4: ", 1);
-    try_random(b"Seeds, pseudo-random mirror grids up to 6 by 4: ", 2);
+    print("every mirror grid up to 6 by 3: ", try_every());
+    try_random("pseudo-random mirror grids up to 6 by 4: ", Rules::Conway);
     try_random(
-        b"Life without death, pseudo-random mirror grids up to 6 by 4: ",
-        3,
+        "Day & Night, pseudo-random mirror grids up to 6 by 4: ",
+        Rules::DayAndNight,
     );
-    try_random(b"pseudo-random rules and mirror grids up to 6 by 4: ", 4);
+    try_random(
+        "Seeds, pseudo-random mirror grids up to 6 by 4: ",
+        Rules::Seeds,
+    );
+    try_random(
+        "Life without death, pseudo-random mirror grids up to 6 by 4: ",
+        Rules::LifeWithoutDeath,
+    );
+    try_random(
+        "pseudo-random rules and mirror grids up to 6 by 4: ",
+        Rules::Random,
+    );
 }
 
-fn print(name: &[u8], c: Counts) {
+fn print(name: &str, c: Counts) {
     report::line(name, c.grids);
-    report::line(b"  with a still mirror board: ", c.boards);
-    report::line(b"  of them with several best: ", c.ties);
-    report::line(b"  with an edge three: ", c.edges);
-    report::line(
-        b"  with none: ",
-        num::wrapping_sub_usize(num::wrapping_sub_usize(c.grids, c.boards), c.edges),
-    );
-    report::line(b"  differences over an edge three: ", c.edges_wrong);
-    report::line(b"  lopsided by a mark altered: ", c.lopsided);
-    report::line(b"  differences over lopsided marks: ", c.lopsided_wrong);
-    report::line(b"  jobs in one run: ", c.jobs);
-    report::line(b"  differences from enumeration: ", c.wrong);
-    report::line(b"  working calls in pieces: ", c.calls);
-    report::line(b"  calls refused in between: ", c.refused);
-    report::line(b"  of them over an edge three: ", c.refused_edges);
-    report::line(b"  of them over lopsided marks: ", c.refused_lopsided);
-    report::line(b"  resumptions refused as the other kinds: ", c.others);
-    report::line(b"  differences from one run: ", c.unlike);
+    report::line("  with a still mirror board: ", c.boards);
+    report::line("  of them with several best: ", c.ties);
+    report::line("  with an edge three: ", c.edges);
+    let none = c.grids.wrapping_sub(c.boards).wrapping_sub(c.edges);
+    report::line("  with none: ", none);
+    report::line("  differences over an edge three: ", c.edges_wrong);
+    report::line("  lopsided by a mark altered: ", c.lopsided);
+    report::line("  differences over lopsided marks: ", c.lopsided_wrong);
+    let r = c.runs;
+    report::line("  jobs in one run: ", r.jobs);
+    report::line("  differences from enumeration: ", r.wrong);
+    report::line("  working calls in pieces: ", r.calls);
+    report::line("  calls refused in between: ", r.refused);
+    report::line("  of them over an edge three: ", r.edges);
+    report::line("  of them over lopsided marks: ", r.altered);
+    report::line("  resumptions refused as the other kinds: ", r.others);
+    report::line("  differences from one run: ", r.unlike);
 }
 
-// Widths 2, 4 and 6, heights 1 to 3.
+// Every mirror grid of widths 2, 4 and 6 and heights 1 to 3: of so many cells in the left halves 3 to that power.
 fn try_every() -> Counts {
-    let mut counts = nothing();
-    for k in 0..9 {
-        counts = try_numbers(sizes::sized(k % 3 * 2 + 2, k / 3 + 1), counts);
+    let mut c = Counts::default();
+    for k in 0..9usize {
+        let size = Size::new(Kind::Mirror, k % 3 * 2 + 2, k / 3 + 1);
+        for number in 0..3usize.wrapping_pow((size.cells / 2 % 64) as u32) {
+            let seed = c.grids.wrapping_add(1000000);
+            try_grid(&Case::of_number(rule::conway(), size, seed, number), &mut c);
+        }
     }
-    counts
+    c
 }
 
-// The mirror grids of a size up to 6 by 3: 3 to the number of its left halves' cells.
-fn grids_of(s: Size) -> usize {
-    let left = s.left;
-    match left {
-        1 => 3,
-        2 => 9,
-        3 => 27,
-        4 => 81,
-        6 => 729,
-        9 => 19683,
-        _ => 0,
+// 300 grids of each size: widths 2, 4 and 6, heights 1 to 4.
+fn try_random(name: &str, rules: Rules) {
+    let mut c = Counts::default();
+    for k in 0..3600usize {
+        let size = Size::new(Kind::Mirror, k / 300 % 3 * 2 + 2, k / 300 / 3 + 1);
+        let seed = c.grids.wrapping_add(2000000);
+        try_grid(&Case::random(rules.rule(seed), size, seed), &mut c);
     }
+    print(name, c);
 }
 
-fn try_numbers(s: Size, so_far: Counts) -> Counts {
-    let mut counts = so_far;
-    let end = grids_of(s);
-    for number in 0..end {
-        counts = try_number(s, number, counts);
+// A grid with an edge three is turned away, and enumeration finds no board; any other is run, and turned away once a mark is altered.
+fn try_grid(case: &Case, c: &mut Counts) {
+    let best = plain::best_board(case);
+    count(&mut c.grids);
+    if let Some(place) = case.edge_three() {
+        count(&mut c.edges);
+        if best.is_some() || !case.is_turned_away(Refusal::EdgeThree(place)) {
+            case.differs("an edge three", &mut c.edges_wrong);
+        }
+        return;
     }
-    counts
-}
-
-fn try_number(s: Size, number: usize, counts: Counts) -> Counts {
-    let mut givens = [0u8; memory::CELLS];
-    marks::write_digits(&mut givens, s, number);
-    try_grid(
-        rule::conway(),
-        s,
-        num::wrapping_add_usize(counts.grids, 1000000),
-        givens,
-        counts,
-    )
-}
-
-// 300 grids of each size under a group's rules: widths 2, 4 and 6, heights 1 to 4.
-fn try_random(name: &[u8], group: usize) {
-    let mut counts = nothing();
-    for k in 0..3600 {
-        let size = k / 300;
-        counts = try_seed(group, sizes::sized(size % 3 * 2 + 2, size / 3 + 1), counts);
+    if let Some(b) = best {
+        count(&mut c.boards);
+        if b.tied {
+            count(&mut c.ties);
+        }
     }
-    print(name, counts);
-}
-
-fn try_seed(group: usize, s: Size, counts: Counts) -> Counts {
-    let seed = num::wrapping_add_usize(counts.grids, 2000000);
-    let mut givens = [0u8; memory::CELLS];
-    marks::write_random(&mut givens, s, seed);
-    try_grid(rules::of_group(group, seed), s, seed, givens, counts)
-}
-
-// A grid with an edge three is turned away; any other is run, and turned away once a mark is altered.
-fn try_grid(rule: Rule, s: Size, seed: usize, givens: [u8; memory::CELLS], c: Counts) -> Counts {
-    let best = plain::best_board(rule, s, &givens);
-    let place = edge_threes::first(rule, s, &givens);
-    if place < s.cells {
-        return try_edge(rule, s, place, best, givens, c);
-    }
-    let next = try_lopsided(rule, s, seed, givens, c);
-    run_grid(rule, s, seed, best, givens, next)
-}
-
-// Opening and working refuse the grid, and enumeration finds no board.
-fn try_edge(
-    rule: Rule,
-    s: Size,
-    place: usize,
-    best: Best,
-    givens: [u8; memory::CELLS],
-    c: Counts,
-) -> Counts {
-    let mut next = c;
-    next.grids = num::wrapping_add_usize(c.grids, 1);
-    next.edges = num::wrapping_add_usize(c.edges, 1);
-    if best.found || !is_turned_away(rule, s, 14, place, givens) {
-        next.edges_wrong = num::wrapping_add_usize(
-            c.edges_wrong,
-            marks::difference(b"an edge three"),
-        );
-        marks::print_grid(rule, s, givens);
-    }
-    next
+    try_lopsided(case, c);
+    runs::try_case(case, best, &mut c.runs);
 }
 
 // The grid with one mark altered: opening and working refuse it, and both other kinds open it.
-fn try_lopsided(
-    rule: Rule,
-    s: Size,
-    seed: usize,
-    givens: [u8; memory::CELLS],
-    c: Counts,
-) -> Counts {
-    let altered = random::below(s.cells, seed, 800000);
-    let place = calls::least(altered, plain::reflection(s.w, altered));
-    let lopsided = marks::with_other(givens, altered);
-    let mut next = c;
-    next.lopsided = num::wrapping_add_usize(c.lopsided, 1);
-    if !is_turned_away(rule, s, 15, place, lopsided) || !is_taken(rule, s, lopsided) {
-        next.lopsided_wrong = num::wrapping_add_usize(
-            c.lopsided_wrong,
-            marks::difference(b"lopsided marks"),
-        );
-        marks::print_grid(rule, s, lopsided);
+fn try_lopsided(case: &Case, c: &mut Counts) {
+    let place = pseudo_random::below(case.size.cells, case.seed, 800000);
+    let (lopsided, refusal) = case.altered(place);
+    count(&mut c.lopsided);
+    let others = [Kind::Ordinary, Kind::TwoLayers];
+    if !lopsided.is_turned_away(refusal) || !others.iter().all(|kind| is_taken(&lopsided, *kind)) {
+        lopsided.differs("lopsided marks", &mut c.lopsided_wrong);
     }
-    next
 }
 
-fn is_taken(rule: Rule, s: Size, givens: [u8; memory::CELLS]) -> bool {
-    calls::is_taken(Kind::Ordinary, rule, s, &givens)
-        && calls::is_taken(Kind::TwoLayers, rule, s, &givens)
-}
-
-// Whether opening and working refuse a grid by a number with a place, and working writes nothing.
-fn is_turned_away(
-    rule: Rule,
-    s: Size,
-    number: u8,
-    place: usize,
-    givens: [u8; memory::CELLS],
-) -> bool {
-    if !calls::is_opening_refused(rule, s, &givens, number, place) {
-        return false;
-    }
-    let job = calls::fresh(rule, s);
-    calls::is_refused_by(
-        number,
-        place,
-        job,
-        calls::exact(s),
-        givens,
-        memory::spoiled(place),
-    )
-}
-
-// One run over leftovers, and pieces over others.
-fn run_grid(
-    rule: Rule,
-    s: Size,
-    seed: usize,
-    best: Best,
-    givens: [u8; memory::CELLS],
-    c: Counts,
-) -> Counts {
-    let job = calls::opened(rule, s, &givens);
-    let r = calls::work(
-        job,
-        calls::exact(s),
-        &givens,
-        memory::spoiled(seed),
-        4294967295,
-    );
-    let one = r.memory;
-    let wrong = differences(s, seed, best, r);
-    let pieces = pieces::run(
-        s,
-        num::wrapping_add_usize(seed, 5000000),
-        best,
-        job,
-        givens,
-        one,
-    );
-    if wrong != 0 || pieces.wrong != 0 {
-        marks::print_grid(rule, s, givens);
-    }
-    counted(c, best, wrong, pieces)
-}
-
-fn counted(c: Counts, best: Best, wrong: usize, p: Pieces) -> Counts {
-    let mut next = c;
-    next.grids = num::wrapping_add_usize(c.grids, 1);
-    next.boards = num::wrapping_add_usize(c.boards, if best.found { 1 } else { 0 });
-    next.ties = num::wrapping_add_usize(c.ties, if best.tied { 1 } else { 0 });
-    next.jobs = num::wrapping_add_usize(c.jobs, 1);
-    next.wrong = num::wrapping_add_usize(c.wrong, wrong);
-    next.calls = num::wrapping_add_usize(c.calls, p.calls);
-    next.refused = num::wrapping_add_usize(c.refused, p.refused);
-    next.refused_edges = num::wrapping_add_usize(c.refused_edges, p.edges);
-    next.refused_lopsided = num::wrapping_add_usize(c.refused_lopsided, p.lopsided);
-    next.others = num::wrapping_add_usize(c.others, p.others);
-    next.unlike = num::wrapping_add_usize(c.unlike, p.wrong);
-    next
-}
-
-// 1 where a run answered anything else than enumeration found, left another board, or wrote anything but what it needs.
-fn differences(s: Size, seed: usize, best: Best, r: After) -> usize {
-    if !calls::is_end(s, best, r) {
-        return marks::difference(b"the answer, or the units");
-    }
-    let left = r.memory;
-    let written = plain::written(s, best);
-    if !memory::is_board(left, written, best.board) {
-        return marks::difference(b"the board");
-    }
-    if !memory::kept(left, s, written, seed) {
-        return marks::difference(b"memory past the table or the board, or a board for none");
-    }
-    0
+// Whether opening a job of another kind takes a grid.
+fn is_taken(case: &Case, kind: Kind) -> bool {
+    let size = Size::new(kind, case.size.w, case.size.h);
+    Case { size, ..*case }.open().is_ok()
 }

@@ -2,23 +2,20 @@
 // Prints what was tried.
 #![tactic(auto)]
 
-mod calls;
-mod edge_threes;
-mod forged;
 mod grids;
-mod marks;
-mod memory;
-mod pieces;
-mod plain;
-mod random;
-mod rules;
-mod sizes;
 mod squares;
-mod unit;
+
+use job_kind::Kind;
+use trials::{Rules, forged};
 
 fn main() {
     grids::try_all();
-    forged::try_jobs(b"forged jobs: ", 0);
-    forged::try_jobs(b"forged jobs under other rules: ", 4);
+    let _ = forged::try_jobs("forged jobs: ", Kind::Mirror, Rules::Conway, 6000);
+    let _ = forged::try_jobs(
+        "forged jobs under other rules: ",
+        Kind::Mirror,
+        Rules::Random,
+        6000,
+    );
     squares::try_all();
 }

@@ -1,8 +1,10 @@
 // Targets under Conway's rule with known answers.
-use crate::sizes::Size;
+use crate::two_pieces;
 use crate::two_pieces::Ended;
-use crate::{calls, cells, plain, sizes, two_pieces};
-use job::{Job, JobResult, Stage};
+use job::Stage;
+use job_kind::Kind;
+use std::fmt::Write;
+use trials::{Case, Size, plain};
 
 // The entries of 5 by 5.
 const ENTRIES: usize = 5120;
@@ -13,75 +15,58 @@ pub fn try_all() {
 }
 
 fn live_targets() {
-    try_target(b"block", 2, 2, 0b11_11);
-    try_target(b"blinker", 3, 3, 0b000_111_000);
-    try_target(b"one live cell", 1, 1, 1);
-    try_target(b"row of three", 3, 1, 0b111);
-    try_target(b"column of three", 1, 3, 0b111);
-    try_target(b"row of three over a dead row", 3, 2, 0b111_000);
-    try_target(b"tub", 3, 3, 0b010_101_010);
-    try_target(b"3 by 3, all live", 3, 3, 0b111_111_111);
-    try_target(b"beehive", 4, 3, 0b0110_1001_0110);
-    try_target(b"glider", 5, 5, 0b00000_00100_00010_01110_00000);
+    try_target("block", 2, 2, 0b11_11);
+    try_target("blinker", 3, 3, 0b000_111_000);
+    try_target("one live cell", 1, 1, 1);
+    try_target("row of three", 3, 1, 0b111);
+    try_target("column of three", 1, 3, 0b111);
+    try_target("row of three over a dead row", 3, 2, 0b111_000);
+    try_target("tub", 3, 3, 0b010_101_010);
+    try_target("3 by 3, all live", 3, 3, 0b111_111_111);
+    try_target("beehive", 4, 3, 0b0110_1001_0110);
+    try_target("glider", 5, 5, 0b00000_00100_00010_01110_00000);
 }
 
 fn dead_targets() {
-    try_target(b"dead, 1 by 1", 1, 1, 0);
-    try_target(b"dead, 2 by 2", 2, 2, 0);
-    try_target(b"dead, 3 by 3", 3, 3, 0);
-    try_target(b"dead, 6 by 1", 6, 1, 0);
-    try_target(b"dead, 5 by 5", 5, 5, 0);
-    try_target(b"dead, 1 by 20", 1, 20, 0);
+    try_target("dead, 1 by 1", 1, 1, 0);
+    try_target("dead, 2 by 2", 2, 2, 0);
+    try_target("dead, 3 by 3", 3, 3, 0);
+    try_target("dead, 6 by 1", 6, 1, 0);
+    try_target("dead, 5 by 5", 5, 5, 0);
+    try_target("dead, 1 by 20", 1, 20, 0);
 }
 
 // The target whose cells are the digits of a number.
-fn try_target(name: &[u8], w: usize, h: usize, number: usize) {
-    let s = sizes::sized(w, h);
-    let target = cells::of_number(s, number);
-    report::text(name);
-    match calls::open(rule::conway(), s, &target) {
-        JobResult::Ready(job) => run(s, job, &target),
-        JobResult::Refused(r) => report::refusal(r),
-    }
-}
-
-fn run(s: Size, job: Job, target: &[u8]) {
+fn try_target(name: &str, w: usize, h: usize, number: usize) {
+    let size = Size::new(Kind::Predecessor, w, h);
+    let case = Case::of_number(rule::conway(), size, 0, number);
     let mut table = [7u16; ENTRIES];
-    print(s, target, two_pieces::run(s, job, target, &mut table));
+    report::text(name);
+    match two_pieces::run(&case, &mut table) {
+        Ok(ended) => print(&case, &ended),
+        Err(r) => report::refusal(r),
+    }
 }
 
 // The answer, the rows, and the units.
-fn print(s: Size, target: &[u8], x: Ended) {
-    let job = x.job;
-    let board = x.board;
-    let stage = job.stage;
-    match stage {
-        Stage::Finished {
-            above: _,
-            last: _,
-            score,
-        } => print_board(s, score, target, &board),
-        Stage::Infeasible => report::text(b": none"),
-        _ => report::text(b": not ended"),
+fn print(case: &Case, x: &Ended) {
+    match x.job.stage {
+        Stage::Finished { score, .. } => print_board(case, score, &x.board),
+        Stage::Infeasible => report::text(": none"),
+        _ => report::text(": not ended"),
     }
-    report::line(b", units ", job.units);
+    report::line(", units ", x.job.units);
 }
 
-fn print_board(s: Size, score: usize, target: &[u8], board: &[u8]) {
-    report::text(b": live ");
-    report::number(score);
-    report::text(b", rows");
-    print_rows(s, board);
-    if !plain::is_before(rule::conway(), s.w, s.h, board, target) {
-        report::text(b", which step to another board");
+// A byte of 2 or more counts as what it is, so that it shows in its row's number.
+fn print_board(case: &Case, score: usize, board: &[u8]) {
+    let s = case.size;
+    let _ = write!(report::Output, ": live {score}, rows");
+    for r in 0..s.h {
+        let row = plain::number_of(board, r.wrapping_mul(s.w), s.w);
+        let _ = write!(report::Output, " {row}");
     }
-}
-
-// A byte of 2 or more counts as what it is, so that it shows in the number.
-fn print_rows(s: Size, board: &[u8]) {
-    let end = s.h;
-    for r in 0..end {
-        report::text(b" ");
-        report::number(cells::number_of(board, sizes::times(r, s.w), s.w));
+    if plain::first_unlike(case.rule, s.w, s.h, board, &case.givens).is_some() {
+        report::text(", which step to another board");
     }
 }

@@ -2,25 +2,24 @@
 // with known answers. Prints what was tried.
 #![tactic(auto)]
 
-mod calls;
-mod cells;
-mod forged;
 mod known;
-mod memory;
-mod pieces;
 mod plain;
-mod random;
-mod rules;
-mod sizes;
 mod targets;
 mod two_pieces;
-mod unit;
 mod wide;
+
+use job_kind::Kind;
+use trials::{Rules, forged};
 
 fn main() {
     known::try_all();
     targets::try_all();
     wide::try_all();
-    forged::try_jobs(b"forged jobs: ", 0);
-    forged::try_jobs(b"forged jobs under other rules: ", 5);
+    let _ = forged::try_jobs("forged jobs: ", Kind::Predecessor, Rules::Conway, 6000);
+    let _ = forged::try_jobs(
+        "forged jobs under other rules: ",
+        Kind::Predecessor,
+        Rules::Random,
+        6000,
+    );
 }

@@ -1,50 +1,33 @@
 // Jobs over a table that is too large for the memory, in two pieces.
-use crate::calls::Lent;
-use crate::sizes::Size;
-use crate::{calls, memory};
+use board::Refusal;
 use job::Job;
-use solver::Status;
+use trials::{CELLS, Case};
 
 // A job after its calls, and the board; a byte that is not written is 9.
 #[derive(Clone, Copy)]
 pub struct Ended {
     pub job: Job,
-    pub board: [u8; memory::CELLS],
+    pub board: [u8; CELLS],
 }
 
-// Runs a job over what the table holds, with a pause and a resumption in the middle of its filling.
-pub fn run(s: Size, start: Job, target: &[u8], table: &mut [u16]) -> Ended {
-    let lent = calls::with_spare(s, 0);
-    let mut board = [9u8; memory::CELLS];
+// Runs a case over what the table holds, with a pause and a resumption in the middle of its filling. No more is lent than the job needs.
+pub fn run(case: &Case, table: &mut [u16]) -> Result<Ended, Refusal> {
+    let s = case.size;
+    let mut board = [9u8; CELLS];
+    let n = s.cells.min(CELLS);
+    let entries = s.room.min(table.len());
     let half = (s.entries / 2 % 4294967296) as u32;
-    let first = work(start, lent, target, table, &mut board, half);
-    let paused = calls::resumed(first);
-    let job = work(paused, lent, target, table, &mut board, 4294967295);
-    Ended { job, board }
-}
-
-fn work(
-    job: Job,
-    lent: Lent,
-    target: &[u8],
-    table: &mut [u16],
-    board: &mut [u8],
-    allowance: u32,
-) -> Job {
-    let r = calls::work_over(job, lent, target, table, board, allowance);
-    let status = r.status;
-    if let Status::Refused(why) = status {
-        report::refusal(why);
+    let mut job = case.open()?;
+    for allowance in [half, u32::MAX] {
+        let worked = solver::work(
+            trials::resumed(job)?,
+            &case.givens[..n],
+            &mut table[..entries],
+            &mut board[..n],
+            allowance,
+        );
+        let _ = worked.status?;
+        job = worked.job;
     }
-    r.job
-}
-
-// Whether no byte of the board is written from a place on.
-pub fn is_kept(board: &[u8], from: usize) -> bool {
-    for k in from..board.len() {
-        if board[k] != 9 {
-            return false;
-        }
-    }
-    true
+    Ok(Ended { job, board })
 }

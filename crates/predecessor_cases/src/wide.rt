@@ -1,16 +1,16 @@
 // Targets of more than four columns against plain enumeration of boards.
-use crate::plain::Best;
-use crate::sizes::Size;
 use crate::two_pieces::Ended;
-use crate::{calls, cells, plain, sizes, two_pieces};
+use crate::{plain, two_pieces};
 use job::Stage;
-use std::num;
+use job_kind::Kind;
+use trials::plain::Best;
+use trials::{Case, Size};
 
 // The entries of 8 by 2.
 const ENTRIES: usize = 131072;
 
 // What was tried.
-#[derive(Clone, Copy)]
+#[derive(Clone, Copy, Default)]
 struct Tally {
     targets: usize,
     boards: usize,
@@ -18,71 +18,68 @@ struct Tally {
 }
 
 pub fn try_all() {
-    let mut firsts = [0usize; plain::BOARDS];
+    let mut firsts = [None; plain::BOARDS];
     let mut table = [7u16; ENTRIES];
-    let mut t = Tally {
-        targets: 0,
-        boards: 0,
-        wrong: 0,
-    };
-    t = try_size(sizes::sized(5, 3), &mut firsts, &mut table, t);
-    t = try_size(sizes::sized(6, 2), &mut firsts, &mut table, t);
-    t = try_size(sizes::sized(7, 2), &mut firsts, &mut table, t);
-    t = try_size(sizes::sized(8, 2), &mut firsts, &mut table, t);
+    let mut t = Tally::default();
+    for (w, h) in [(5, 3), (6, 2), (7, 2), (8, 2)] {
+        try_size(w, h, &mut firsts, &mut table, &mut t);
+    }
     report::line(
-        b"pseudo-random targets of 5 by 3, 6 by 2, 7 by 2 and 8 by 2: ",
+        "pseudo-random targets of 5 by 3, 6 by 2, 7 by 2 and 8 by 2: ",
         t.targets,
     );
-    report::line(b"  with a board: ", t.boards);
-    report::line(
-        b"  with none: ",
-        num::wrapping_sub_usize(t.targets, t.boards),
-    );
-    report::line(b"  differences from enumeration: ", t.wrong);
+    report::line("  with a board: ", t.boards);
+    report::line("  with none: ", t.targets.wrapping_sub(t.boards));
+    report::line("  differences from enumeration: ", t.wrong);
 }
 
-fn try_size(s: Size, firsts: &mut [usize], table: &mut [u16], so_far: Tally) -> Tally {
-    plain::enumerate(rule::conway(), s, firsts);
-    let mut t = so_far;
-    for k in 0..16 {
-        t = try_target(s, k + 4000000, firsts, table, t);
+fn try_size(w: usize, h: usize, firsts: &mut [Option<usize>], table: &mut [u16], t: &mut Tally) {
+    let size = Size::new(Kind::Predecessor, w, h);
+    plain::enumerate(rule::conway(), size, firsts);
+    for k in 0..16usize {
+        try_target(
+            &Case::random(rule::conway(), size, k + 4000000),
+            firsts,
+            table,
+            t,
+        );
     }
-    t
 }
 
-fn try_target(s: Size, seed: usize, firsts: &[usize], table: &mut [u16], t: Tally) -> Tally {
-    let target = cells::random_target(rule::conway(), s, seed);
-    let best = plain::best_board(firsts, cells::number_of(&target, 0, s.cells));
-    let job = calls::opened(rule::conway(), s, &target);
-    let x = two_pieces::run(s, job, &target, table);
-    let mut next = t;
-    next.targets = num::wrapping_add_usize(t.targets, 1);
-    next.boards = num::wrapping_add_usize(t.boards, if best.found { 1 } else { 0 });
-    if !is_right(s, best, x) {
-        next.wrong = num::wrapping_add_usize(t.wrong, cells::difference(b"a wide target"));
-        cells::print_target(rule::conway(), s, target);
+fn try_target(case: &Case, firsts: &[Option<usize>], table: &mut [u16], t: &mut Tally) {
+    let best = plain::best_board(firsts, case);
+    trials::count(&mut t.targets);
+    if best.is_some() {
+        trials::count(&mut t.boards);
     }
-    next
-}
-
-fn is_right(s: Size, best: Best, x: Ended) -> bool {
-    let job = x.job;
-    let board = x.board;
-    let stage = job.stage;
-    let right = match stage {
-        Stage::Finished {
-            above: _,
-            last: _,
-            score,
-        } => best.found && score == best.score && is_board(s, &board, best.board),
-        Stage::Infeasible => !best.found,
-        _ => false,
+    let right = match two_pieces::run(case, table) {
+        Ok(ended) => is_right(case, best, &ended),
+        Err(_) => false,
     };
-    let written = plain::written(s, best);
-    right && job.units == plain::length(s, best) && two_pieces::is_kept(&board, written)
+    if !right {
+        case.differs("a wide target", &mut t.wrong);
+    }
 }
 
-// Whether the cells of a board are the digits of a number.
-fn is_board(s: Size, board: &[u8], number: usize) -> bool {
-    cells::first_bad(board, s.cells) == s.cells && cells::number_of(board, 0, s.cells) == number
+// Whether a job ended with the board of enumeration, and wrote nothing but it.
+fn is_right(case: &Case, best: Option<Best>, x: &Ended) -> bool {
+    let s = case.size;
+    let (written, right) = match (best, x.job.stage) {
+        (Some(b), Stage::Finished { score, .. }) => {
+            let wanted = Case::of_number(case.rule, s, case.seed, b.board);
+            let is_board = x
+                .board
+                .iter()
+                .zip(wanted.givens.iter())
+                .take(s.cells)
+                .all(|(a, b)| a == b);
+            (
+                s.cells,
+                score == b.score && x.job.units == s.length && is_board,
+            )
+        }
+        (None, Stage::Infeasible) => (0, x.job.units == s.none_length),
+        _ => (0, false),
+    };
+    right && x.board.iter().skip(written).all(|cell| *cell == 9)
 }

@@ -3,9 +3,10 @@
 // then those of mirror boards, then predecessor jobs.
 #![tactic(auto)]
 
+mod jobs;
 mod mirror_boards;
-mod numbers;
 mod openings;
+mod ordinary;
 mod predecessors;
 mod rounds;
 mod spoiling;
@@ -24,8 +25,8 @@ fn main() {
     workings::edge_threes();
     workings::memory();
     workings::passes();
-    numbers::resumptions();
-    numbers::pauses();
+    ordinary::resumptions();
+    ordinary::pauses();
     spoiling::calls();
     openings::two_layers();
     two_layers::order();

@@ -1,8 +1,8 @@
 // Jobs at the limits of width and height, their lengths written out: which numbers beside their ends resuming takes.
-use crate::{calls, numbers};
+use crate::numbers;
+use crate::numbers::Tally;
 use job::Checkpoint;
 use job_kind::Kind;
-use std::num;
 
 // A kind and a size, and its jobs' lengths where a board exists and where none does.
 #[derive(Clone, Copy)]
@@ -14,69 +14,70 @@ struct Ends {
     none: usize,
 }
 
-// What was tried.
-#[derive(Clone, Copy)]
-struct Tally {
-    taken: usize,
-    wrong: usize,
-}
-
 pub fn try_all() {
-    print(
-        b"ordinary jobs of 10 by 60, 10 by 1, 1 by 60 and 1 by 1, numbers taken beside their ends: ",
-        try_kind(Kind::Ordinary, 62914620, 300),
+    try_kind(
+        "ordinary jobs of 10 by 60, 10 by 1, 1 by 60 and 1 by 1, numbers taken beside their ends: ",
+        Kind::Ordinary,
+        62914620,
+        300,
     );
-    print(
-        b"jobs of two layers of the same sizes, numbers taken beside their ends: ",
-        try_kind(Kind::TwoLayers, 1918894140, 7380),
+    try_kind(
+        "jobs of two layers of the same sizes, numbers taken beside their ends: ",
+        Kind::TwoLayers,
+        1918894140,
+        7380,
     );
-    print(
-        b"predecessor jobs of the same sizes, numbers taken beside their ends: ",
-        try_kind(Kind::Predecessor, 62914620, 300),
+    try_kind(
+        "predecessor jobs of the same sizes, numbers taken beside their ends: ",
+        Kind::Predecessor,
+        62914620,
+        300,
     );
-}
-
-fn print(name: &[u8], t: Tally) {
-    report::line(name, t.taken);
-    report::line(b"  refused: ", num::wrapping_sub_usize(4 * 24 * 2, t.taken));
-    report::line(b"  differences from the lengths: ", t.wrong);
 }
 
 // The lengths of 10 by 60 and 1 by 60 are each kind's own.
-fn try_kind(kind: Kind, wide: usize, narrow: usize) -> Tally {
-    let mut t = Tally { taken: 0, wrong: 0 };
-    t = try_limit(ends_of(kind, 10, 60, wide, 62914561), t);
-    t = try_limit(ends_of(kind, 10, 1, 1048577, 1048577), t);
-    t = try_limit(ends_of(kind, 1, 60, narrow, 241), t);
-    try_limit(ends_of(kind, 1, 1, 5, 5), t)
-}
-
-fn ends_of(kind: Kind, w: usize, h: usize, length: usize, none: usize) -> Ends {
-    Ends {
-        kind,
-        w,
-        h,
-        length,
-        none,
+fn try_kind(name: &str, kind: Kind, wide: usize, narrow: usize) {
+    let mut t = Tally::default();
+    let ends = [
+        (10, 60, wide, 62914561),
+        (10, 1, 1048577, 1048577),
+        (1, 60, narrow, 241),
+        (1, 1, 5, 5),
+    ];
+    for (w, h, length, none) in ends {
+        let x = Ends {
+            kind,
+            w,
+            h,
+            length,
+            none,
+        };
+        try_limit(x, &mut t);
     }
+    report::line(name, t.taken);
+    report::line("  refused: ", (4 * 24 * 2usize).wrapping_sub(t.taken));
+    report::line("  differences from the lengths: ", t.wrong);
 }
 
-// One unit before, at and after either end, under each mark and one past the last, resumed as each kind.
-fn try_limit(x: Ends, so_far: Tally) -> Tally {
-    let mut t = so_far;
-    for k in 0..24 {
+// One unit before, at and after either end, under each mark and one past the last, resumed as its own kind and as another.
+fn try_limit(x: Ends, t: &mut Tally) {
+    let other = match x.kind {
+        Kind::Ordinary => Kind::TwoLayers,
+        _ => Kind::Ordinary,
+    };
+    for k in 0..24usize {
         let end = if k < 12 { x.length } else { x.none };
-        let units = num::wrapping_sub_usize(num::wrapping_add_usize(end, k % 3), 1);
-        t = try_units(x, units, k / 3 % 4, t);
+        let units = end.wrapping_add(k % 3).wrapping_sub(1);
+        let mark = k / 3 % 4;
+        let c = without_rows(x, units, mark);
+        numbers::count(
+            fits(x, units, mark),
+            numbers::is_resumed_as(x.kind, c),
+            c,
+            t,
+        );
+        numbers::count(false, numbers::is_resumed_as(other, c), c, t);
     }
-    t
-}
-
-fn try_units(x: Ends, units: usize, mark: usize, t: Tally) -> Tally {
-    let kind = x.kind;
-    let c = without_rows(x, units, mark);
-    let as_own = counted(c, kind, fits(x, units, mark), t);
-    counted(c, calls::other(kind), false, as_own)
 }
 
 // Whether the units fit the mark, no rows being given.
@@ -90,7 +91,6 @@ fn fits(x: Ends, units: usize, mark: usize) -> bool {
 }
 
 fn without_rows(x: Ends, units: usize, mark: usize) -> Checkpoint {
-    let kind = x.kind;
     let rule = rule::conway();
     Checkpoint {
         width: x.w,
@@ -102,17 +102,6 @@ fn without_rows(x: Ends, units: usize, mark: usize) -> Checkpoint {
         mark,
         births: rule.births,
         survivals: rule.survivals,
-        kind: calls::number_of(kind),
+        kind: numbers::number_of(x.kind),
     }
-}
-
-fn counted(c: Checkpoint, kind: Kind, taken: bool, t: Tally) -> Tally {
-    let right = if taken { 1 } else { 0 };
-    let mut next = t;
-    next.taken = num::wrapping_add_usize(t.taken, right);
-    if numbers::resumes_as(kind, c) != right {
-        numbers::print_numbers(c);
-        next.wrong = num::wrapping_add_usize(t.wrong, 1);
-    }
-    next
 }

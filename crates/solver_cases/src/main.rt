@@ -3,38 +3,32 @@
 // Prints what was tried. Crate mirror_cases has the jobs of mirror boards, and predecessor_cases the predecessor jobs.
 #![tactic(auto)]
 
-mod calls;
 mod edge_threes;
-mod forged;
 mod grids;
 mod limits;
-mod marks;
-mod memory;
 mod numbers;
-mod pieces;
-mod plain;
-mod random;
-mod rules;
-mod sizes;
-mod unit;
 
 use job_kind::Kind;
+use trials::{Rules, forged};
 
 fn main() {
     grids::try_all();
-    grids::try_rules();
-    edge_threes::try_lines(b"every grid of 1 by 9 and 9 by 1: ", 0);
-    edge_threes::try_lines(b"the same under pseudo-random rules: ", 5);
-    edge_threes::try_random(b"pseudo-random grids up to 4 by 4, a third live: ", 0);
-    edge_threes::try_random(b"the same under pseudo-random rules: ", 5);
-    forged::try_jobs(b"forged jobs: ", Kind::Ordinary, 0);
-    forged::try_jobs(b"forged jobs under other rules: ", Kind::Ordinary, 5);
-    forged::try_jobs(b"forged jobs of two layers: ", Kind::TwoLayers, 0);
-    forged::try_jobs(
-        b"forged jobs of two layers under other rules: ",
+    edge_threes::try_all();
+    try_forged(
+        "forged jobs: ",
+        "forged jobs under other rules: ",
+        Kind::Ordinary,
+    );
+    try_forged(
+        "forged jobs of two layers: ",
+        "forged jobs of two layers under other rules: ",
         Kind::TwoLayers,
-        5,
     );
     numbers::try_all();
     limits::try_all();
+}
+
+fn try_forged(name: &str, other_rules: &str, kind: Kind) {
+    let _ = forged::try_jobs(name, kind, Rules::Conway, 6000);
+    let _ = forged::try_jobs(other_rules, kind, Rules::Random, 6000);
 }

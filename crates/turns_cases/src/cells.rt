@@ -1,13 +1,13 @@
 // Cells by rows and columns: a grid's marks, a board's states, or a list of numbers.
 ghost use Rattle.std.specs.Prelude.{◌≤◌};
 
-use std::num;
+use std::fmt::Write;
 
 // More than any size tried has.
 pub const CELLS: usize = 32;
 
 // The cells in reading order. Past w × h a grid and a list have 0s, and a board what was there.
-#[derive(Clone, Copy)]
+#[derive(Clone, Copy, PartialEq, Eq)]
 pub struct Cells {
     pub w: usize,
     pub h: usize,
@@ -18,7 +18,7 @@ pub fn blank(w: usize, h: usize) -> Cells {
     Cells {
         w,
         h,
-        at: [0u8; CELLS],
+        at: [0; CELLS],
     }
 }
 
@@ -26,17 +26,7 @@ pub fn blank(w: usize, h: usize) -> Cells {
 pub fn count(w: usize, h: usize) -> usize
     ensures { result ≤ 32 }
 {
-    least(product(w, h), CELLS)
-}
-
-pub fn least(a: usize, b: usize) -> usize
-    ensures { result ≤ b }
-{
-    if a < b { a } else { b }
-}
-
-fn product(a: usize, b: usize) -> usize {
-    a % 4294967296 * (b % 4294967296)
+    w.wrapping_mul(h).min(CELLS)
 }
 
 // The row and the column of a place, from 0.
@@ -50,7 +40,7 @@ pub fn column(w: usize, place: usize) -> usize {
 
 // The place of a row and a column.
 pub fn place(w: usize, r: usize, c: usize) -> usize {
-    num::wrapping_add_usize(product(w, r), c)
+    w.wrapping_mul(r).wrapping_add(c)
 }
 
 // The cell of a row and a column, 0 outside.
@@ -58,36 +48,21 @@ pub fn cell(a: Cells, r: usize, c: usize) -> u8 {
     if a.w <= c || a.h <= r {
         return 0;
     }
-    let p = place(a.w, r, c);
-    if CELLS <= p {
-        return 0;
+    match a.at.get(place(a.w, r, c)) {
+        Some(x) => *x,
+        None => 0,
     }
-    a.at[p]
 }
 
 // Row or column k of n, counted from the other end.
 pub fn from_end(n: usize, k: usize) -> usize {
-    num::wrapping_sub_usize(n, num::wrapping_add_usize(k, 1))
-}
-
-// Whether two have the same size and cells.
-pub fn same(a: Cells, b: Cells) -> bool {
-    if a.w != b.w || a.h != b.h {
-        return false;
-    }
-    for k in 0..CELLS {
-        if a.at[k] != b.at[k] {
-            return false;
-        }
-    }
-    true
+    n.wrapping_sub(k.wrapping_add(1))
 }
 
 // The numbers from 1 on.
 pub fn list(w: usize, h: usize) -> Cells {
     let mut next = blank(w, h);
-    let end = count(w, h);
-    for k in 0..end {
+    for k in 0..count(w, h) {
         next.at[k] = (k + 1) as u8;
     }
     next
@@ -95,15 +70,10 @@ pub fn list(w: usize, h: usize) -> Cells {
 
 // Prints the cells, a space before each row.
 pub fn print(a: Cells) {
-    let end = count(a.w, a.h);
-    for k in 0..end {
-        print_cell(column(a.w, k), a.at[k]);
+    for (k, x) in a.at.iter().take(count(a.w, a.h)).enumerate() {
+        if column(a.w, k) == 0 {
+            report::text(" ");
+        }
+        let _ = write!(report::Output, "{x}");
     }
-}
-
-fn print_cell(c: usize, x: u8) {
-    if c == 0 {
-        report::text(b" ");
-    }
-    report::number(x as usize);
 }

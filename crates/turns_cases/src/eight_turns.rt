@@ -2,6 +2,7 @@
 // one step, which says where each cell goes.
 use crate::cells;
 use crate::cells::Cells;
+use std::fmt::Write;
 
 // Left and right exchanged or not, and then quarter turns clockwise, 0 to 3.
 #[derive(Clone, Copy)]
@@ -21,10 +22,9 @@ pub fn numbered(n: usize) -> Turn {
 // Prints a turn.
 pub fn print(t: Turn) {
     if t.reflected {
-        report::text(b", left and right exchanged");
+        report::text(", left and right exchanged");
     }
-    report::text(b", quarter turns ");
-    report::number(t.quarters);
+    let _ = write!(report::Output, ", quarter turns {}", t.quarters);
 }
 
 // The turn that is t and then u.
@@ -56,8 +56,7 @@ pub fn inverse(t: Turn) -> Turn {
 // Turned by an exchange and quarter turns, one after the other.
 pub fn by_steps(t: Turn, a: Cells) -> Cells {
     let mut next = if t.reflected { exchanged(a) } else { a };
-    let end = t.quarters;
-    for _ in 0..end {
+    for _ in 0..t.quarters {
         next = quarter(next);
     }
     next
@@ -65,22 +64,21 @@ pub fn by_steps(t: Turn, a: Cells) -> Cells {
 
 // Left and right exchanged.
 fn exchanged(a: Cells) -> Cells {
-    let mut next = cells::blank(a.w, a.h);
-    for k in 0..cells::CELLS {
-        let r = cells::row(a.w, k);
-        let c = cells::column(a.w, k);
-        next.at[k] = cells::cell(a, r, cells::from_end(a.w, c));
-    }
-    next
+    cells_by(a.w, a.h, |r, c| cells::cell(a, r, cells::from_end(a.w, c)))
 }
 
 // A quarter turn clockwise: a column from its foot up becomes a row.
 fn quarter(a: Cells) -> Cells {
-    let mut next = cells::blank(a.h, a.w);
+    cells_by(a.h, a.w, |r, c| cells::cell(a, cells::from_end(a.h, c), r))
+}
+
+// The cells of a size, by row and column.
+fn cells_by<F: Fn(usize, usize) -> u8>(w: usize, h: usize, cell: F) -> Cells
+    requires { F.IsAlwaysCallable cell }
+{
+    let mut next = cells::blank(w, h);
     for k in 0..cells::CELLS {
-        let r = cells::row(a.h, k);
-        let c = cells::column(a.h, k);
-        next.at[k] = cells::cell(a, cells::from_end(a.h, c), r);
+        next.at[k] = cell(cells::row(w, k), cells::column(w, k));
     }
     next
 }
@@ -117,8 +115,7 @@ fn place_after(t: Turn, w: usize, h: usize, k: usize) -> usize {
     let c = if t.reflected { right } else { left };
     let opposite = if t.reflected { left } else { right };
     let below = cells::from_end(h, r);
-    let quarters = t.quarters;
-    match quarters {
+    match t.quarters {
         0 => cells::place(w, r, c),
         1 => cells::place(h, c, below),
         2 => cells::place(w, below, opposite),

@@ -1,7 +1,6 @@
 // Grids of givens, what keeps them, and their score.
+use crate::cells;
 use crate::cells::Cells;
-use crate::{cells, random};
-use std::num;
 
 // The grids of a group, by their numbers from 0.
 #[derive(Clone, Copy)]
@@ -36,7 +35,7 @@ fn larger(k: usize) -> Cells {
 
 fn line(k: usize) -> Cells {
     let density = k / 2 % 4;
-    let seed = num::wrapping_add_usize(k, 20);
+    let seed = k.wrapping_add(20);
     if k % 2 == 0 {
         random_marks(1, 10, density, seed)
     } else {
@@ -48,9 +47,8 @@ fn line(k: usize) -> Cells {
 fn digits(w: usize, h: usize, number: usize) -> Cells {
     let mut next = cells::blank(w, h);
     let mut rest = number;
-    let end = cells::count(w, h);
-    for k in 0..end {
-        next.at[k] = (rest % 3) as u8;
+    for mark in next.at.iter_mut().take(cells::count(w, h)) {
+        *mark = (rest % 3) as u8;
         rest = rest / 3;
     }
     next
@@ -59,9 +57,8 @@ fn digits(w: usize, h: usize, number: usize) -> Cells {
 // Pseudo-random marks, of a density.
 fn random_marks(w: usize, h: usize, density: usize, seed: usize) -> Cells {
     let mut next = cells::blank(w, h);
-    let end = cells::count(w, h);
-    for k in 0..end {
-        next.at[k] = random_mark(density, random::below(16, seed, k));
+    for (k, mark) in next.at.iter_mut().take(cells::count(w, h)).enumerate() {
+        *mark = random_mark(density, pseudo_random::below(16, seed, k));
     }
     next
 }
@@ -91,12 +88,8 @@ pub fn is_filled_in(givens: Cells, board: Cells, score: usize) -> bool {
 }
 
 fn keeps(givens: Cells, board: Cells) -> bool {
-    for k in 0..cells::CELLS {
-        if !keeps_mark(givens.at[k], board.at[k]) {
-            return false;
-        }
-    }
-    true
+    let mut pairs = givens.at.iter().zip(board.at.iter());
+    pairs.all(|(mark, state)| keeps_mark(*mark, *state))
 }
 
 fn keeps_mark(mark: u8, state: u8) -> bool {
@@ -109,11 +102,8 @@ fn keeps_mark(mark: u8, state: u8) -> bool {
 
 // The live cells that are free.
 fn live_free(givens: Cells, board: Cells) -> usize {
-    let mut live = 0;
-    for k in 0..cells::CELLS {
-        if givens.at[k] == 0 && board.at[k] == 1 {
-            live = num::wrapping_add_usize(live, 1);
-        }
-    }
-    live
+    let pairs = givens.at.iter().zip(board.at.iter());
+    pairs
+        .filter(|(mark, state)| **mark == 0 && **state == 1)
+        .count()
 }
