@@ -337,11 +337,13 @@ BY_HAND = ("while", "loop", "range elements", "counter in a range")
 
 
 def header(body, i):
-    """The place of the bracket that opens the block of the loop or match at i."""
+    """The place of the bracket that opens the block of the loop, match or `if` at i; the function's last one for an arm's guard, which has no block."""
     k = i + 1
-    while body[k][0] != "{":
+    while k < len(body) - 1 and body[k][0] != "{":
+        if body[k][0] == "=>":
+            return len(body) - 1
         k = closing(body, k) + 1 if body[k][0] in OPEN else k + 1
-    return k
+    return min(k, len(body) - 1)
 
 
 def is_element(body, k):
@@ -352,9 +354,9 @@ def is_element(body, k):
     if before != "," or after not in ",)":
         return False
     j = k - 2
-    while body[j][0] != "(" or closing(body, j) < k:
+    while j > 0 and (body[j][0] != "(" or closing(body, j) < k):
         j -= 1
-    return body[j - 1][0] in ("at", "put", "byte_at", "one") and not any(t[0] == "," for t in body[j + 1:k - 1])
+    return j > 0 and body[j - 1][0] in ("at", "put", "byte_at", "one") and not any(t[0] == "," for t in body[j + 1:k - 1])
 
 
 def added(block):

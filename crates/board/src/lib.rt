@@ -96,7 +96,7 @@ pub const MAX_HEIGHT: usize = 60;
 // The most columns where rows are held as their left halves.
 pub const MAX_MIRROR_WIDTH: usize = 2 * MAX_WIDTH;
 
-// 1: width 1 to 10.
+// 1: width 1 to 10. README names this function and the next: two, though they differ in a limit and a refusal alone.
 pub fn check_width(w: usize) -> Result<(), Refusal>
     ensures { check_says result ≡ width_check w }
 {
@@ -175,7 +175,7 @@ pub fn check_board(w: usize, h: usize, cells: &[u8]) -> Result<(), Refusal>
     check_cells(w, h, cells)
 }
 
-// 3, 4: w × h marks, each 0, 1 or 2.
+// 3, 4: w × h marks, each 0, 1 or 2. README names this function and the next: two, over one.
 pub fn check_givens(w: usize, h: usize, givens: &[u8]) -> Result<(), Refusal>
     ensures { check_says result ≡ givens_check w h givens.now }
 {
@@ -203,7 +203,7 @@ fn check_marks(most: u8, w: usize, h: usize, marks: &[u8]) -> Result<(), Refusal
     }
 }
 
-// The entries of a table of h layers, h × 4^w; 0 where the width or the height is past its limit.
+// The entries of a table of h layers, h × 4^w; 0 and no option where the width or the height is past its limit, as `table_size_within` promises.
 pub fn table_size(w: usize, h: usize) -> usize
     ensures { result ≡ table_size_within w h }
 {

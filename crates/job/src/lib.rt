@@ -50,7 +50,8 @@ pub struct Job {
     pub stage: Stage,
 }
 
-// The ten numbers of a paused job: 0 running, 1 finished, 2 infeasible is its mark, then its rule, and its kind's number.
+// The ten numbers of a paused job: 0 running, 1 finished, 2 infeasible is its mark, then its rule, and its kind's number. Numbers and no enums, since
+// document 01 has numbers, of which a resumption may be handed any.
 #[derive(Clone, Copy, Debug, PartialEq, Eq)]
 pub struct Checkpoint {
     pub width: usize,

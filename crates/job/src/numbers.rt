@@ -1,4 +1,5 @@
-// The numbers of a job: which of them fit, and the stage that they give.
+// The numbers of a job: which of them fit, and the stage that they give. An end mark is a number here, as in the definitions of crate elimination that
+// the contracts name. The conversions have names and are no `From`: each says the definition of its name, and `From` would say no more.
 ghost use Rattle.std.specs.Prelude.{◌≡◌, true, cond, ◌≤◌, ◌<◌};
 ghost use Rattle.board.specs.Boards.{max_mirror_width, max_height, Width};
 ghost use Rattle.elimination.specs.Shape.{units_fit, rows_chosen, rows_fit};

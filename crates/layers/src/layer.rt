@@ -133,7 +133,8 @@ fn load_eight(
     }
 }
 
-// The number of a row: what it earns and 1, with the entry read for it; 0 where it doesn't keep the givens, or the entry counts as none.
+// The number of a row: what it earns and 1, with the entry read for it; 0 where it doesn't keep the givens, or the entry counts as none. No option: eight
+// such numbers are compared at once.
 #[tactic(auto, unfolding(column_elimination::specs::Columns::scored))]
 fn number(limit: u16, gain: u16, entry: u16) -> u16
     requires { gain + limit ≤ 65535 }

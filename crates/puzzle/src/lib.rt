@@ -24,8 +24,8 @@ pub const ENTRIES: usize = 32768;
 // `!`, a score of three digits and LF, and 60 rows of 10 letters and LF.
 pub const OUTPUT: usize = 665;
 
-// Solves the grid that a text holds, and writes what the program prints; answers how many bytes. Memory of other sizes than the program's: 0, and
-// nothing is written.
+// Solves the grid that a text holds, and writes what the program prints; answers how many bytes. Memory of other sizes than the program's: 0, as README
+// promises, and nothing is written.
 pub fn answer(
     text: &[u8],
     givens: &mut [u8],

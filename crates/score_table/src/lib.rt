@@ -14,7 +14,7 @@ ghost use Rattle.score_table.specs.Calls.{grid_fits, call_fits, layer_fits, entr
 use board::ChosenRow;
 use rows::Marks;
 
-// The number that stands for none.
+// The number that stands for none: a table lent is of 16-bit numbers, as document 01 has it, and so no option.
 pub const NONE: u16 = 65535;
 
 // Which of the rows that may stand somewhere is the best, by the sums of their worths and the numbers that the table has for them.
@@ -122,7 +122,7 @@ pub fn choose_row(
 }
 
 // One more than what a row earns as the one with r rows above it, by the last w digits of its number; 0 where it doesn't keep the givens there, or the
-// memory isn't of a grid of w by h cells with so many rows above one.
+// memory isn't of a grid of w by h cells with so many rows above one. A number and no option, since it is the one that a lane starts from.
 pub fn row_gain(w: usize, h: usize, r: usize, row: usize, givens: &[u8]) -> usize
     ensures { result ≡ gain_of w h r row givens.now }
 {

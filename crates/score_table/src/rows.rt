@@ -104,7 +104,7 @@ impl Above {
     }
 }
 
-// Whether a cell keeps its mark.
+// Whether a cell keeps its mark. Marks are the bytes that a caller lends, as document 01 has them, and so no enum.
 #[tactic(auto, unfolding(crate::specs::Rows::mark_kept))]
 fn mark_kept(mark: u8, cell: usize) -> bool
     ensures { result ≡ mark_kept mark cell }

@@ -29,7 +29,7 @@ pub fn check_work(job: Job, givens: &[u8], table: &[u16], board: &[u8]) -> Resul
     board::check_table(kind.row_digits(w), kind.layers(h), table)
 }
 
-// The answer for a job in a stage.
+// The answer for a job in a stage. No `From`: `stage_says` is its contract by name.
 fn status_of(stage: Stage) -> Status
     ensures { status_says (Ok result) ≡ stage_says stage }
 {

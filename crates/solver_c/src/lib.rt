@@ -10,7 +10,7 @@ use job::Job;
 use job_kind::Kind;
 use solver::Status;
 
-// Answers that are no score, which is at most 1,200.
+// Answers that are no score, which is at most 1,200: for C an answer is one number.
 const UNFINISHED: usize = 2001;
 
 const INFEASIBLE: usize = 2002;
