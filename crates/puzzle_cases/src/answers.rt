@@ -1,120 +1,56 @@
-// A text's answer, in memory of the program's sizes that holds what no answer writes.
+// A text's answer, in memory that holds what no answer writes.
+ghost use Rattle.std.specs.Prelude.{◌≤◌};
+
 use crate::judge;
-use std::num;
+use crate::judge::Size;
+use std::fmt::{Display, Write};
 
-// A text, its answer, and how much was written.
-pub fn show(name: &[u8], text: &[u8]) {
-    try_text(name, 0, 0, text);
+// A text, its answer in memory of the program's sizes, and how much was written.
+pub fn show<D: Display + Drop>(name: D, text: &[u8], judged: Option<Size>) {
+    show_in::<D, { puzzle::ENTRIES }, { puzzle::OUTPUT }>(name, text, judged);
 }
 
-// The same for a large grid, of whose answer the first line is printed and the board is judged.
-pub fn check(name: &[u8], w: usize, h: usize, text: &[u8]) {
-    try_text(name, w, h, text);
-}
-
-fn try_text(name: &[u8], w: usize, h: usize, text: &[u8]) {
+// The same in a table and an output of other sizes. Where the board is judged, only the first line of the answer is printed.
+// The `requires` holds the arrays to a size that memory has room for.
+pub fn show_in<D: Display + Drop, const ENTRIES: usize, const OUTPUT: usize>(
+    name: D,
+    text: &[u8],
+    judged: Option<Size>,
+)
+    requires { (ENTRIES ≤ 32768) × (OUTPUT ≤ 666) }
+{
     let mut givens = [9u8; puzzle::CELLS];
-    let mut table = [700u16; puzzle::ENTRIES];
+    let mut table = [700u16; ENTRIES];
     let mut board = [9u8; puzzle::CELLS];
-    let mut output = [9u8; puzzle::OUTPUT];
+    let mut output = [9u8; OUTPUT];
     let n = puzzle::answer(text, &mut givens, &mut table, &mut board, &mut output);
-    print(name, w, h, first(&output, n));
-    wrote(
-        n,
+    let _ = writeln!(report::Output, "{name}:");
+    print(&output[..n.min(OUTPUT)], judged);
+    let _ = writeln!(
+        report::Output,
+        "  answered {n}; written: bytes {}, entries {}, givens {}, cells {}",
         unlike(&output, 9),
-        entries_unlike(&table, 700),
+        unlike(&table, 700),
         unlike(&givens, 9),
         unlike(&board, 9),
     );
 }
 
-// A table with one entry too few.
-pub fn short_table() {
-    let mut table = [700u16; 32767];
-    let mut output = [9u8; puzzle::OUTPUT];
-    other_memory(b"32,767 entries:\n", &mut table, &mut output);
-}
-
-// An output with one byte too many.
-pub fn long_output() {
-    let mut table = [700u16; puzzle::ENTRIES];
-    let mut output = [9u8; 666];
-    other_memory(b"an output of 666 bytes:\n", &mut table, &mut output);
-}
-
-fn other_memory(name: &[u8], table: &mut [u16], output: &mut [u8]) {
-    let mut givens = [9u8; puzzle::CELLS];
-    let mut board = [9u8; puzzle::CELLS];
-    let n = puzzle::answer(b"..\n..\n", &mut givens, table, &mut board, output);
-    report::text(name);
-    wrote(
-        n,
-        unlike(output, 9),
-        entries_unlike(table, 700),
-        unlike(&givens, 9),
-        unlike(&board, 9),
-    );
-}
-
-// An answer, whole where no width is given.
-fn print(name: &[u8], w: usize, h: usize, answer: &[u8]) {
-    report::text(name);
-    report::text(b":\n");
-    if w == 0 {
-        report::text(answer);
-    } else {
-        report::text(first(answer, line(answer)));
-        judge::print(w, h, answer);
-    }
-}
-
-fn wrote(n: usize, bytes: usize, entries: usize, givens: usize, cells: usize) {
-    report::text(b"  answered ");
-    report::number(n);
-    report::text(b"; written: bytes ");
-    report::number(bytes);
-    report::text(b", entries ");
-    report::number(entries);
-    report::text(b", givens ");
-    report::number(givens);
-    report::line(b", cells ", cells);
-}
-
-// The first n bytes, or all where there are fewer.
-pub fn first(s: &[u8], n: usize) -> &[u8] {
-    if n < s.len() { &s[..n] } else { s }
-}
-
-// The length of the first line, with its LF.
-fn line(s: &[u8]) -> usize {
-    let mut i = 0;
-    while i < s.len() {
-        if s[i] == b'\n' {
-            return i + 1;
+fn print(answer: &[u8], judged: Option<Size>) {
+    match judged {
+        None => {
+            io::write_all(1, answer);
         }
-        i += 1;
-    }
-    i
-}
-
-// The entries of a table that are not so.
-fn entries_unlike(table: &[u16], entry: u16) -> usize {
-    let mut n = 0;
-    for k in 0..table.len() {
-        if table[k] != entry {
-            n = num::wrapping_add_usize(n, 1);
+        Some(size) => {
+            for line in answer.split_inclusive(|b| *b == b'\n').take(1) {
+                io::write_all(1, line);
+            }
+            judge::print(size, answer);
         }
     }
-    n
 }
 
-// The bytes that are not so.
-fn unlike(bytes: &[u8], byte: u8) -> usize {
-    let mut n = 0;
-    for k in 0..bytes.len() {
-        if bytes[k] != byte {
-            n = num::wrapping_add_usize(n, 1);
-        }
-    }
-    n
+// How many of the memory's values are not as lent.
+fn unlike<T: PartialEq + Copy>(memory: &[T], lent: T) -> usize {
+    memory.iter().filter(|x| **x != lent).count()
 }

@@ -1,120 +1,79 @@
 // A plain judge of a printed board, for comparison: it counts live cells, and neighbours one by one.
-ghost use Rattle.std.specs.Prelude.{◌≤◌};
+use std::fmt;
+use std::fmt::{Display, Formatter, Write};
 
-use std::num;
-
-// The letters after the first line, row r and column c from 1 at (r + 1) * 14 + c + 1, and whether there are h rows of w letters, each with LF.
+// A grid's size.
 #[derive(Clone, Copy)]
-struct Plane {
-    cells: [u8; 900],
-    whole: bool,
+pub struct Size {
+    pub width: usize,
+    pub height: usize,
 }
+
+impl Display for Size {
+    fn fmt<W: Write>(&self, f: &mut Formatter<W>) -> fmt::Result {
+        write!(f, "{} by {}", self.width, self.height)
+    }
+}
+
+// The letters of a board of up to 60 rows of 10, in rows of 14, with two dead cells or more on each side.
+type Plane = [u8; 900];
 
 // Prints what a board that follows a first line is.
-pub fn print(w: usize, h: usize, answer: &[u8]) {
-    let plane = read(w, h, answer);
-    report::text(b"  judged apart: ");
-    if !plane.whole {
-        report::text(b"not so many rows, ");
-    }
-    if !still(plane) {
-        report::text(b"not ");
-    }
-    report::line(b"still, live cells ", live(plane));
+pub fn print(size: Size, answer: &[u8]) {
+    let plane = read(answer);
+    let rows = if has_rows(size, answer) {
+        ""
+    } else {
+        "not so many rows, "
+    };
+    let still = if still(&plane) { "" } else { "not " };
+    let _ = writeln!(
+        report::Output,
+        "  judged apart: {rows}{still}still, live cells {}",
+        live(&plane)
+    );
 }
 
-fn read(w: usize, h: usize, answer: &[u8]) -> Plane {
-    let mut cells = [0u8; 900];
-    let mut whole = true;
-    let mut row = 0;
-    let mut column = 0;
-    let mut i = 0;
-    while i < answer.len() {
-        if answer[i] == b'\n' {
-            if row != 0 {
-                if column != w {
-                    whole = false;
-                }
-            }
-            row = num::wrapping_add_usize(row, 1);
-            column = 0;
-        } else {
-            column = num::wrapping_add_usize(column, 1);
-            put(&mut cells, row, column, answer[i]);
+// Whether so many rows of so many letters, each with LF, follow the first line.
+fn has_rows(size: Size, answer: &[u8]) -> bool {
+    // Made twice, since a chain's clone is a `Result` here.
+    let mut rows = answer.split_inclusive(|b| *b == b'\n').skip(1);
+    answer.split_inclusive(|b| *b == b'\n').skip(1).count() == size.height
+        && rows.all(|row| row
+            .strip_suffix(b"\n")
+            .is_some_and(|letters| letters.len() == size.width))
+}
+
+fn read(answer: &[u8]) -> Plane {
+    let mut plane = [b'.'; 900];
+    let lines = answer.split(|b| *b == b'\n').skip(1);
+    for (cells, line) in plane.chunks_mut(14).skip(2).take(60).zip(lines) {
+        for (cell, letter) in cells.iter_mut().skip(2).take(10).zip(line.iter()) {
+            *cell = *letter;
         }
-        i += 1;
     }
-    if row != num::wrapping_add_usize(h, 1) {
-        whole = false;
-    }
-    if column != 0 {
-        whole = false;
-    }
-    Plane { cells, whole }
-}
-
-fn put(cells: &mut [u8; 900], row: usize, column: usize, letter: u8) {
-    if row == 0 {
-        return;
-    }
-    if 60 < row {
-        return;
-    }
-    if 10 < column {
-        return;
-    }
-    if letter == b'O' {
-        cells[(row + 1) * 14 + column + 1] = 1;
-    }
+    plane
 }
 
 // Whether each cell of the plane keeps its state.
-fn still(plane: Plane) -> bool {
-    let cells = plane.cells;
-    for k in 15..885usize {
-        if !kept(&cells, k) {
-            return false;
-        }
-    }
-    true
+fn still(plane: &Plane) -> bool {
+    plane.windows(31).all(|part| kept(part))
 }
 
-fn kept(cells: &[u8; 900], k: usize) -> bool {
-    let n = neighbours(cells, k);
-    if one(cells, k) == 1 {
-        return n == 2 || n == 3;
+// Whether the middle one of 31 cells keeps its state. In rows of 14 it and its neighbours are the first three columns.
+fn kept(part: &[u8]) -> bool {
+    let neighbours = part
+        .iter()
+        .enumerate()
+        .filter(|(k, cell)| k % 14 < 3 && *k != 15 && **cell == b'O')
+        .count();
+    if part.get(15) == Some(&b'O') {
+        neighbours == 2 || neighbours == 3
+    } else {
+        neighbours != 3
     }
-    n != 3
 }
 
-fn neighbours(cells: &[u8; 900], k: usize) -> usize {
-    if k < 15 {
-        return 0;
-    }
-    if 884 < k {
-        return 0;
-    }
-    let above = one(cells, k - 15) + one(cells, k - 14) + one(cells, k - 13);
-    let beside = one(cells, k - 1) + one(cells, k + 1);
-    let below = one(cells, k + 13) + one(cells, k + 14) + one(cells, k + 15);
-    above + beside + below
-}
-
-// 1 for a live cell.
-fn one(cells: &[u8; 900], k: usize) -> usize
-    ensures { result ≤ 1 }
-{
-    if 899 < k {
-        return 0;
-    }
-    if cells[k] == 1 { 1 } else { 0 }
-}
-
-fn live(plane: Plane) -> usize {
-    let cells = plane.cells;
-    let mut n = 0;
-    for k in 0..900usize {
-        n = num::wrapping_add_usize(n, one(&cells, k));
-    }
-    n
+fn live(plane: &Plane) -> usize {
+    plane.iter().filter(|cell| **cell == b'O').count()
 }

@@ -18,6 +18,6 @@ fn main() {
     texts::longest();
     texts::large();
     texts::too_large();
-    answers::short_table();
-    answers::long_output();
+    texts::short_table();
+    texts::long_output();
 }
