@@ -69,8 +69,8 @@ pub fn first_failing(
     requires { (w ≤ max_mirror_width) × (c < 2 ^ w) × ((j : ℕ) → j < w + 2 → get_or columns.now j 0 < 1024) }
     ensures { result ≡ first_not (λ j. passes (entry_of next.now) w (get_or columns.now j 0) c j) (w + 2) }
 {
-    for (j, column) in columns[..w + 2].iter().enumerate() {
-        if !passes(next, w, *column, c, j) {
+    for j in 0..w + 2 {
+        if !passes(next, w, columns[j], c, j) {
             return Some(j);
         }
     }
