@@ -181,11 +181,8 @@ fn finish(
 {
     let mut last = [0; LAST_MASKS];
     columns::last_masks(rows.keep, rows.w, b, &mut last);
-    if rows.w % 2 == 0 {
-        write_all(even, &last, rows.n, table, target, b);
-    } else {
-        write_all(odd, &last, rows.n, table, target, b);
-    }
+    let numbers = if rows.w % 2 == 0 { even } else { odd };
+    write_all(numbers, &last, rows.n, table, target, b);
 }
 
 // The entries of eight rows b below every row a, by the last two columns.

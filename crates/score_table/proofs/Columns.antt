@@ -9,9 +9,6 @@ use native.Mathlib.Decide.{dec_lt}
 use lib.Dec.{eqb, lit<}
 use lib.IntN.{ℤ, pos, negsuc, pred_ℤ, suc_ℤ}
 use lib.Pow.{pow-add}
-use mathlib.Core.List.{List}
-use lib.ListN.{length, get_or, take, length-take}
-use Rattle.std.proofs.lemmas.List.{get_or-take}
 use Rattle.board.specs.Boards.{among}
 use Rattle.life.specs.Plane.{three}
 use Rattle.life.specs.Rows.{cell_of, digit_in, window, becomes}
@@ -90,7 +87,3 @@ passes_is next w a b c t j la lb lc lt lj =
 pub passes_by : (next : ℕ → ℕ) (w a b c t j : ℕ) {column : ℕ} → a < 2 ^ w → b < 2 ^ w → c < 2 ^ w → t < 2 ^ w → j < w + 2 → column ≡ column_of w a b t j
     → passes next w column c j ≡ becomes next w a b c t j
 passes_by next w a b c t j la lb lc lt lj e = rw e (passes_is next w a b c t j la lb lc lt (omega arith))
-
--- a column of those that are walked
-pub column_in : (n : ℕ) (columns : List ℕ) (j : ℕ) → j < length (take n columns) → (j < n) × (get_or (take n columns) j 0 ≡ get_or columns j 0)
-column_in n columns j l = let m : j < n = omega (arith, length-take n columns) in (m, get_or-take n columns j 0 m)
