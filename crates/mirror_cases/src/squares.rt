@@ -30,15 +30,10 @@ fn square(s: Size, table: &mut [u16]) {
     }
 }
 
-// Works in allowances of 600,000, two of which are more than side 16 has units, with a pause and a resumption before each.
+// Works in allowances of 600,000, two of which are more than side 16 has units.
 fn run(s: Size, givens: &[u8], table: &mut [u16], board: &mut [u8]) -> Result<Job, Refusal> {
-    let mut job = job::open(s.kind, rule::conway(), s.w, s.h, givens)?;
-    for _ in 0..2 {
-        let worked = solver::work(trials::resumed(job)?, givens, table, board, 600000);
-        let _ = worked.status?;
-        job = worked.job;
-    }
-    Ok(job)
+    let job = job::open(s.kind, rule::conway(), s.w, s.h, givens)?;
+    trials::in_pieces(job, givens, table, board, &[600000; 2])
 }
 
 // The score, the units, and what the board is.

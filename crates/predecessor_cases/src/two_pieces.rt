@@ -17,17 +17,12 @@ pub fn run(case: &Case, table: &mut [u16]) -> Result<Ended, Refusal> {
     let n = s.cells.min(CELLS);
     let entries = s.room.min(table.len());
     let half = (s.entries / 2 % 4294967296) as u32;
-    let mut job = case.open()?;
-    for allowance in [half, u32::MAX] {
-        let worked = solver::work(
-            trials::resumed(job)?,
-            &case.givens[..n],
-            &mut table[..entries],
-            &mut board[..n],
-            allowance,
-        );
-        let _ = worked.status?;
-        job = worked.job;
-    }
+    let job = trials::in_pieces(
+        case.open()?,
+        &case.givens[..n],
+        &mut table[..entries],
+        &mut board[..n],
+        &[half, u32::MAX],
+    )?;
     Ok(Ended { job, board })
 }

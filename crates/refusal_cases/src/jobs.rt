@@ -32,7 +32,7 @@ impl Grid {
         self.filling(0, [0, 0, 0])
     }
 
-    // Jobs in a stage, with the row above, the last row and the live cells.
+    // Jobs in a stage, by a variant each, with the row above, the last row and the live cells.
     pub fn filling(self, units: usize, rows: [usize; 3]) -> Job {
         let [above, last, live] = rows;
         self.at(units, Stage::Filling { above, last, live })
@@ -210,6 +210,7 @@ pub fn pause(job: Job) {
     }
 }
 
+// As in crate example, which stands alone, since README.md shows it whole.
 fn print_numbers(t: Checkpoint) {
     let numbers = [
         t.width,

@@ -43,7 +43,7 @@ fn solve_again(side: usize, score: Option<usize>, board: &[u8], table: &mut [u16
     if solve(Kind::TwoLayers, side, table, &mut again) != score {
         report::text(", another score");
     }
-    if board == &again {
+    if board == again.as_slice() {
         report::text(", the same board\n");
     } else {
         report::text(", another board\n");
@@ -70,8 +70,7 @@ fn solve(kind: Kind, side: usize, table: &mut [u16], board: &mut [u8]) -> Option
     }
 }
 
-// Works in allowances of 20 million, which have whole layers of every side, and 3 of which are more than side 10 has units; with a pause and a
-// resumption before each.
+// Works in allowances of 20 million, which have whole layers of every side, and 3 of which are more than side 10 has units.
 fn run(
     kind: Kind,
     side: usize,
@@ -79,13 +78,8 @@ fn run(
     table: &mut [u16],
     board: &mut [u8],
 ) -> Result<Job, Refusal> {
-    let mut job = job::open(kind, rule::conway(), side, side, givens)?;
-    for _ in 0..3 {
-        let worked = solver::work(trials::resumed(job)?, givens, table, board, 20000000);
-        let _ = worked.status?;
-        job = worked.job;
-    }
-    Ok(job)
+    let job = job::open(kind, rule::conway(), side, side, givens)?;
+    trials::in_pieces(job, givens, table, board, &[20000000; 3])
 }
 
 // The score, the units, and the judge's verdict on the board. A finished job's score.

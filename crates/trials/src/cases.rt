@@ -38,7 +38,7 @@ fn with_givens(rule: Rule, size: Size, seed: usize, givens: [u8; CELLS]) -> Case
 }
 
 impl Case {
-    // The case whose givens are the digits of a number.
+    // The case whose givens are the digits of a number. This and `random` are two ways to come to givens, without a parameter that says which.
     pub fn of_number(rule: Rule, size: Size, seed: usize, number: usize) -> Case
         ensures { (result.rule ≡ rule) × (result.size ≡ size) × (result.seed ≡ seed) }
     {
@@ -131,7 +131,7 @@ impl Case {
             }
             Kind::Predecessor => {
                 marks::put_bad(&mut givens, s, n);
-                Refusal::Mark(marks::first_bad(&givens, s.cells))
+                Refusal::Mark(marks::first_bad(&givens, s.cells).unwrap_or(n))
             }
             _ => {
                 marks::put(&mut givens, n, 3);

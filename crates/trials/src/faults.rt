@@ -1,6 +1,6 @@
 // Calls between the pieces of a run that must be refused.
 use crate::calls::{Call, Lent};
-use crate::{Case, marks};
+use crate::{Case, Size, marks};
 use board::Refusal;
 use job::{Job, Stage};
 use job_kind::Kind;
@@ -78,100 +78,47 @@ fn of_number(case: &Case, x: usize, units: usize) -> Fault {
 
 // The call with a fault; none where the fault needs no call.
 pub(crate) fn call_with(case: &Case, fault: Fault, job: Job) -> Option<Call> {
-    let s = case.size;
-    let full = Lent::with_spare(s, 0);
-    let exact = Call {
+    let mut call = Call {
         case: *case,
         job,
-        lent: Lent::exact(s),
+        lent: lent_with(case.size, fault),
         refusal: Refusal::Checkpoint,
     };
-    let fewer = s.cells.wrapping_sub(1);
-    let more = s.cells.wrapping_add(1);
-    let call = match fault {
-        Fault::ShortBoard => wrong_length(
-            exact,
-            Lent {
-                board: fewer,
-                ..full
-            },
-            Refusal::BoardLength,
-        ),
-        Fault::LongBoard => wrong_length(
-            exact,
-            Lent {
-                board: more,
-                ..full
-            },
-            Refusal::BoardLength,
-        ),
-        Fault::ShortTable => {
-            let table = s.room.wrapping_sub(1);
-            wrong_length(exact, Lent { table, ..full }, Refusal::ShortTable)
-        }
-        Fault::ShortGivens => {
-            wrong_length(
-                exact,
-                Lent {
-                    givens: fewer,
-                    ..full
-                },
-                Refusal::GivensLength,
-            )
-        }
-        Fault::LongGivens => wrong_length(
-            exact,
-            Lent {
-                givens: more,
-                ..full
-            },
-            Refusal::GivensLength,
-        ),
-        Fault::Number => Call {
-            job: with_number(job),
-            ..exact
-        },
-        Fault::Stage => Call {
-            job: with_other_stage(job),
-            ..exact
-        },
+    match fault {
+        Fault::ShortBoard | Fault::LongBoard => call.refusal = Refusal::BoardLength,
+        Fault::ShortTable => call.refusal = Refusal::ShortTable,
+        Fault::ShortGivens | Fault::LongGivens => call.refusal = Refusal::GivensLength,
+        Fault::Number => call.job = with_number(job),
+        Fault::Stage => call.job = with_other_stage(job),
         Fault::Mark(place) => {
-            let mut marked = *case;
-            marks::put(&mut marked.givens, place, 3);
-            Call {
-                case: marked,
-                refusal: Refusal::Mark(place),
-                ..exact
-            }
+            marks::put(&mut call.case.givens, place, 3);
+            call.refusal = Refusal::Mark(place);
         }
         Fault::EdgeThree => {
-            let marked = with_edge(case);
-            let refusal = Refusal::EdgeThree(marked.edge_three()?);
-            Call {
-                case: marked,
-                refusal,
-                ..exact
-            }
+            call.case = with_edge(case);
+            call.refusal = Refusal::EdgeThree(call.case.edge_three()?);
         }
         Fault::Altered(n) => {
             let (altered, refusal) = case.altered(n);
-            Call {
-                case: altered,
-                refusal,
-                ..exact
-            }
+            call.case = altered;
+            call.refusal = refusal;
         }
         Fault::OtherKinds => return None,
-    };
+    }
     Some(call)
 }
 
-fn wrong_length(call: Call, lent: Lent, refusal: Refusal) -> Call {
-    Call {
-        lent,
-        refusal,
-        ..call
+fn lent_with(s: Size, fault: Fault) -> Lent {
+    let mut lent = Lent::with_spare(s, 0);
+    match fault {
+        Fault::ShortBoard => lent.board = s.cells.wrapping_sub(1),
+        Fault::LongBoard => lent.board = s.cells.wrapping_add(1),
+        Fault::ShortTable => lent.table = s.room.wrapping_sub(1),
+        Fault::ShortGivens => lent.givens = s.cells.wrapping_sub(1),
+        Fault::LongGivens => lent.givens = s.cells.wrapping_add(1),
+        _ => return Lent::exact(s),
     }
+    lent
 }
 
 fn with_edge(case: &Case) -> Case {

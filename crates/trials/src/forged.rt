@@ -260,14 +260,14 @@ fn try_call(case: &Case, allowance: u32, p: &mut Pair, t: &mut Tally) -> bool {
         .great
         .wrapping_add(great_entries(case.size.kind, &p.memory, &plain.memory));
     match plain.numbers.mark {
+        _ if plain.is_spoiled => count(&mut t.spoiled),
         1 => count(&mut t.finished),
         2 => count(&mut t.none),
-        3 => count(&mut t.spoiled),
         _ => {}
     }
     p.job = r.job;
     p.memory = r.memory;
-    p.numbers = standing(plain.numbers);
+    p.numbers = plain.numbers;
     is_same(case.size, &r, &plain)
 }
 
@@ -286,22 +286,14 @@ fn great_entries(kind: Kind, before: &Memory, after: &Memory) -> usize {
         .count()
 }
 
-// A job whose table was found spoiled stands before the row, and runs on.
-fn standing(c: Checkpoint) -> Checkpoint {
-    Checkpoint {
-        mark: if c.mark == 3 { 0 } else { c.mark },
-        ..c
-    }
-}
-
 // Whether a working call answers with the job, the status and the memory that the second implementation comes to.
 fn is_same(s: Size, r: &After, plain: &Ran) -> bool {
     let c = plain.numbers;
     let status = match c.mark {
+        _ if plain.is_spoiled => Err(Refusal::SpoiledTable),
         0 => Ok(Status::Unfinished),
         1 => Ok(Status::Finished(c.live)),
-        2 => Ok(Status::Infeasible),
-        _ => Err(Refusal::SpoiledTable),
+        _ => Ok(Status::Infeasible),
     };
     r.status == status && r.job == unit::job_of(s, c) && r.memory == plain.memory
 }

@@ -22,7 +22,7 @@ mod unit;
 pub use calls::After;
 pub use cases::{CELLS, Case};
 pub use counts::count;
-pub use jobs::resumed;
+pub use jobs::in_pieces;
 pub use memory::Memory;
 pub use rules::Rules;
 pub use sizes::Size;

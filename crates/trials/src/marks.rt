@@ -188,8 +188,6 @@ pub(crate) fn put_edge(cells: &mut [u8], s: Size) {
 }
 
 // The place of the first byte of 2 or more.
-pub(crate) fn first_bad(target: &[u8], cells: usize) -> usize {
-    (0..cells)
-        .find(|k| 1 < plain::at(target, *k))
-        .unwrap_or(cells)
+pub(crate) fn first_bad(target: &[u8], cells: usize) -> Option<usize> {
+    (0..cells).find(|k| 1 < plain::at(target, *k))
 }

@@ -6,31 +6,37 @@ use job::{Checkpoint, Job, Stage};
 use job_kind::Kind;
 use rule::Rule;
 
-// A job's numbers, and the memory that its units left. The mark is 3 where no row could be chosen after row 1.
+// What units left of a job's numbers and of the memory, and whether they met a row after row 1 that could not be chosen.
 #[derive(Clone, Copy)]
 pub(crate) struct Ran {
     pub(crate) numbers: Checkpoint,
     pub(crate) memory: Memory,
+    pub(crate) is_spoiled: bool,
 }
 
 // Units until the allowance is spent, the job ends, or no row can be chosen.
 pub(crate) fn work(case: &Case, start: Checkpoint, memory: Memory, allowance: u32) -> Ran {
     let mut table = memory.table;
     let mut board = memory.board;
-    let mut c = start;
+    let mut numbers = start;
+    let mut is_spoiled = false;
     for _ in 0..allowance {
-        if c.mark != 0 {
+        if numbers.mark != 0 {
             break;
         }
-        c = if case.size.left(c.units) != 0 {
-            fill(case, c, &mut table)
+        if case.size.left(numbers.units) != 0 {
+            numbers = fill(case, numbers, &mut table);
+        } else if let Some(next) = choose(case, numbers, &table, &mut board) {
+            numbers = next;
         } else {
-            choose(case, c, &table, &mut board)
-        };
+            is_spoiled = true;
+            break;
+        }
     }
     Ran {
-        numbers: c,
+        numbers,
         memory: Memory { table, board },
+        is_spoiled,
     }
 }
 
@@ -77,31 +83,29 @@ fn wanted(case: &Case, i: usize, row: usize) -> usize {
     }
 }
 
-// Row k, the first that has none.
-fn choose(case: &Case, c: Checkpoint, table: &[u16], board: &mut [u8]) -> Checkpoint {
+// Row k, the first that has none. Where none can be chosen, the job ends at row 1, and otherwise stands before the row.
+fn choose(case: &Case, c: Checkpoint, table: &[u16], board: &mut [u8]) -> Option<Checkpoint> {
     let s = case.size;
     let before = s.chosen(c.units);
     let units = c.units.wrapping_add(1);
-    let Some(best) = best_below(case, before.wrapping_add(1), c.above, c.last, table) else {
-        // the job ends where it is row 1, and otherwise stands before it
-        return if before == 0 {
-            Checkpoint {
+    match best_below(case, before.wrapping_add(1), c.above, c.last, table) {
+        None if before == 0 => Some(Checkpoint {
+            units,
+            mark: 2,
+            ..c
+        }),
+        None => None,
+        Some(best) => {
+            write_row(board, before.wrapping_mul(s.w), s.w, s.whole(best.row));
+            Some(Checkpoint {
                 units,
-                mark: 2,
+                above: c.last,
+                last: best.row,
+                live: c.live.wrapping_add(best.score),
+                mark: if before.wrapping_add(1) == s.h { 1 } else { 0 },
                 ..c
-            }
-        } else {
-            Checkpoint { mark: 3, ..c }
-        };
-    };
-    write_row(board, before.wrapping_mul(s.w), s.w, s.whole(best.row));
-    Checkpoint {
-        units,
-        above: c.last,
-        last: best.row,
-        live: c.live.wrapping_add(best.score),
-        mark: if before.wrapping_add(1) == s.h { 1 } else { 0 },
-        ..c
+            })
+        }
     }
 }
 
@@ -175,7 +179,7 @@ fn place_of(s: Size, i: usize, a: usize, b: usize) -> usize {
         .wrapping_add(b)
 }
 
-// The job of these numbers; one that could not choose a row stands before it.
+// The job of these numbers.
 pub(crate) fn job_of(s: Size, c: Checkpoint) -> Job {
     let above = c.above;
     let last = c.last;

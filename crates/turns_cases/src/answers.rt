@@ -2,9 +2,9 @@
 use crate::cells;
 use crate::cells::Cells;
 use board::Refusal;
+use job::Stage;
 use job_kind::Kind;
 use rule::Rule;
-use solver::Status;
 
 // The entries of the tables: of widths up to 6, those of 6 by 3, the most of a grid tried; of greater ones, two layers of width 10.
 const ENTRIES: usize = 12288;
@@ -81,26 +81,20 @@ fn lend(way: Way, grid: Cells, table: &mut [u16]) -> Solution {
 
 // Working calls with pseudo-random allowances, a pause and a resumption before each; the last one ends the job, or its answer is none of the above.
 fn in_pieces(way: Way, grid: Cells, givens: &[u8], table: &mut [u16], board: &mut [u8]) -> Answer {
-    let mut job = job::open(way.kind, way.rule, grid.w, grid.h, givens)?;
-    let mut status = Status::Unfinished;
-    for k in 0..PIECES {
-        let allowance = part(table.len(), way.seed, k);
-        let worked = solver::work(trials::resumed(job)?, givens, table, board, allowance);
-        status = worked.status?;
-        job = worked.job;
+    let mut allowances = [u32::MAX; PIECES]; // the last one more than any job has
+    for (k, allowance) in allowances.iter_mut().take(PIECES - 1).enumerate() {
+        *allowance = part(table.len(), way.seed, k);
     }
-    match status {
-        Status::Unfinished => Err(Refusal::Checkpoint),
-        Status::Finished(score) => Ok(Some(score)),
-        Status::Infeasible => Ok(None),
+    let job = job::open(way.kind, way.rule, grid.w, grid.h, givens)?;
+    match trials::in_pieces(job, givens, table, board, &allowances)?.stage {
+        Stage::Finished { score, .. } => Ok(Some(score)),
+        Stage::Infeasible => Ok(None),
+        _ => Err(Refusal::Checkpoint),
     }
 }
 
-// None, one, a part of the units that a table has, and at last more than any job has.
+// None, one, or a part of the units that a table has.
 fn part(entries: usize, seed: usize, k: usize) -> u32 {
-    if k == PIECES - 1 {
-        return u32::MAX;
-    }
     let units = match pseudo_random::below(8, seed, k.wrapping_add(1000)) {
         0 => 0,
         1 => 1,

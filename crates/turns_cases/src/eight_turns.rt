@@ -87,9 +87,10 @@ fn cells_by<F: Fn(usize, usize) -> u8>(w: usize, h: usize, cell: F) -> Cells
 pub fn at_once(t: Turn, a: Cells) -> Cells {
     let mut next = size_after(t, a.w, a.h);
     for k in 0..cells::CELLS {
-        let p = place_after(t, a.w, a.h, k);
-        if p < cells::CELLS {
-            next.at[p] = a.at[k];
+        if let Some(p) = place_after(t, a.w, a.h, k) {
+            if p < cells::CELLS {
+                next.at[p] = a.at[k];
+            }
         }
     }
     next
@@ -104,21 +105,21 @@ fn size_after(t: Turn, w: usize, h: usize) -> Cells {
     }
 }
 
-// Where a cell goes, past the end for a place that is no cell.
-fn place_after(t: Turn, w: usize, h: usize, k: usize) -> usize {
+// Where a cell goes; none for a place that is no cell.
+fn place_after(t: Turn, w: usize, h: usize, k: usize) -> Option<usize> {
     let r = cells::row(w, k);
     if h <= r {
-        return cells::CELLS;
+        return None;
     }
     let left = cells::column(w, k);
     let right = cells::from_end(w, left);
     let c = if t.reflected { right } else { left };
     let opposite = if t.reflected { left } else { right };
     let below = cells::from_end(h, r);
-    match t.quarters {
+    Some(match t.quarters {
         0 => cells::place(w, r, c),
         1 => cells::place(h, c, below),
         2 => cells::place(w, below, opposite),
         _ => cells::place(h, opposite, r),
-    }
+    })
 }
