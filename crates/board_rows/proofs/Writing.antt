@@ -70,7 +70,12 @@ module _ (cells : ℕ → ℕ) (board : List ℕ) (at : ℕ) where
       let more : set (listed cells m ++ drop m part) m (cells m) ≡ listed cells (suc m) ++ drop (suc m) part =
       rw add-one at (listed_more cells part m (omega (arith, length-drop at board))) in
       let e : at + m - at ≡ m = omega arith in
-      rw (← (written_part m (omega arith)), set-append_right (take at board) (listed cells m ++ drop m part) at (at + m) (cells m) before (omega arith), e, more)
+      rw (
+        ← (written_part m (omega arith)),
+        set-append_right (take at board) (listed cells m ++ drop m part) at (at + m) (cells m) before (omega arith),
+        e,
+        more,
+      )
 
 -- ---- a row's number
 -- the first cells are the digits from the left

@@ -41,7 +41,8 @@ fn eight<const N: usize, F: Fn(usize) -> u16>(dst: &mut [u16; N], o: usize, lane
 }
 
 // ---- one column
-// Source, masks and destination go on as parameters: only src and masks could be one value, as dst is written, and each call would still name its places.
+// Source, masks and destination go on as parameters: only src and masks could be one value, as dst is written, and each call would still give its
+// places.
 
 // Column j, from one vector to the other. Where there is no such column nothing is written.
 #[tactic(auto, unfolding(crate::specs::Calls::column_fits))]

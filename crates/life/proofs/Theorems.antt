@@ -78,7 +78,10 @@ says_still (Err x) e = absurd (refuses_none e)
 
 says_changes : (v : Result (Option Change) Refusal) (r c : ℕ) → verdict_says v ≡ changes r c → v ≡ Ok (Some (record { row = r; column = c }))
 says_changes (Ok None) r c e = absurd (no_change e)
-says_changes (Ok (Some cell)) r c e = let er : cell.row ≡ r = cc in let ec : cell.column ≡ c = cc in ap₂ (λ (s d : ℕ). Ok (Some (record { row = s; column = d }))) er ec
+says_changes (Ok (Some cell)) r c e =
+    let er : cell.row ≡ r = cc in
+    let ec : cell.column ≡ c = cc in
+    ap₂ (λ (s d : ℕ). Ok (Some (record { row = s; column = d }))) er ec
 says_changes (Err x) r c e = absurd (refuses_none e)
 
 -- a verdict is of an allowed rule and a board, and is what judging finds of them

@@ -3,6 +3,7 @@
 ghost use Rattle.std.specs.Prelude.{◌≡◌, ◌+◌, ◌*◌, ◌<◌, ◌≤◌, pos, length};
 ghost use Rattle.std.proofs.Math.IntN.{pred_ℤ};
 ghost use Rattle.board.specs.Boards.{Board};
+ghost use Rattle.board.specs.Search.{first_not};
 ghost use Rattle.rule.specs.Rule.{entry_of};
 ghost use Rattle.life.specs.Plane.{on_plane, three, around};
 ghost use Rattle.life.specs.Calls.{change_says, judged, keeps_at, stepped, ring_size};
@@ -49,15 +50,23 @@ impl Plane<'_> {
     }
 
     // The first cell that changes, over the ring and the inside.
+    #[tactic(auto, unfolding(crate::specs::Calls::judged))]
     pub fn first_change(&self, next: &[u8; 512]) -> Option<Change>
         ensures { change_says result ≡ judged (entry_of next.now) self.now.width self.now.height self.now.cells.now }
     {
-        let columns = self.width + 2;
-        let place = (0..columns * (self.height + 2)).find(|place| !self.keeps(next, *place))?;
+        let place = self.first_place(next)?;
         Some(Change {
-            row: place / columns,
-            column: place % columns,
+            row: place / (self.width + 2),
+            column: place % (self.width + 2),
         })
+    }
+
+    // Its place among those cells in reading order.
+    fn first_place(&self, next: &[u8; 512]) -> Option<usize>
+        ensures { result ≡ first_not (keeps_at (entry_of next.now) self.now.width self.now.height self.now.cells.now)
+            (ring_size self.now.width self.now.height) }
+    {
+        (0..(self.width + 2) * (self.height + 2)).find(|place| !self.keeps(next, *place))
     }
 
     // Whether the cell at a place keeps its state.

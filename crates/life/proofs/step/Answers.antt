@@ -17,5 +17,6 @@ returns c =
     let checked : life_check a.rule a.w a.h a.cells.now ≡ passed = sym c.on_plane.ensures.says ∙ ap (says (λ plane. [])) c.in_ok-plane.was in (
       simp (checked, eq-eqb _ _ c.if-ring-w.false),
       simp (checked, eq-eqb _ _ c.if-ring-w.false)
-          (rw (← board.0, ← board.1, ← board.2) (c.write_step.ensures ∙ stepped_same _ (next_under _) c.of.ensures.entry c.in_ok-plane.plane.board.bytes)),
+          (rw (← board.0, ← board.1, ← board.2)
+          (c.write_step.ensures ∙ stepped_same _ (next_under _) c.of.ensures.entry c.in_ok-plane.plane.board.bytes)),
     )

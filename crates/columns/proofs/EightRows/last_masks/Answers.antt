@@ -16,5 +16,6 @@ loop-t-preserved c =
     let past = c.windows-past.result in
     last_turn keep _ _ _ at past c.windows-at.ensures.places c.windows-past.ensures.places c.loop-t.invariant
     (c.eight.ensures
-    (λ (l : ℕ). bit_and (get_or keep (128 * (t / 4) + 2 * (t % 4) + get_or at l 0) 0) (get_or keep (256 * (t / 4 % 2) + 4 * (t % 2) + get_or past l 0) 0))
+    (λ (l : ℕ).
+    bit_and (get_or keep (128 * (t / 4) + 2 * (t % 4) + get_or at l 0) 0) (get_or keep (256 * (t / 4 % 2) + 4 * (t % 2) + get_or past l 0) 0))
     (λ l v h k. search (rules, tests)))
