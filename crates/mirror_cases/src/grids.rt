@@ -77,7 +77,8 @@ fn try_every() -> Counts {
     c
 }
 
-// 300 grids of each size: widths 2, 4 and 6, heights 1 to 4. As in solver_cases over its sizes; one loop for both would take them by a closure.
+// 300 grids of each size: widths 2, 4 and 6, heights 1 to 4. As in solver_cases over its sizes; one loop for both would have to take a closure for
+// these, which is no plainer.
 fn try_random(name: &str, rules: Rules) {
     let mut c = Counts::default();
     for k in 0..3600usize {

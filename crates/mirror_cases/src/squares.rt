@@ -30,7 +30,7 @@ fn square(s: Size, table: &mut [u16]) {
     }
 }
 
-// Works in allowances of 600,000, two of which are more than side 16 has units.
+// Much as in solver_squares: what the two share is `in_pieces`. Works in allowances of 600,000, two of which are more than side 16 has units.
 fn run(s: Size, givens: &[u8], table: &mut [u16], board: &mut [u8]) -> Result<Job, Refusal> {
     let job = job::open(s.kind, rule::conway(), s.w, s.h, givens)?;
     trials::in_pieces(job, givens, table, board, &[600000; 2])

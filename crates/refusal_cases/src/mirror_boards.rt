@@ -1,95 +1,53 @@
 // Working calls on jobs of mirror boards, and their numbers. A row of width 4 is held as its left half, one of 4, so a layer has 16 entries.
 use crate::jobs::Grid;
-use crate::workings::Lent;
+use crate::workings::lend;
 use crate::{jobs, workings};
 use job::Job;
 use job_kind::Kind;
 
 // Calls on a grid of 4 by 2, which needs 32 entries, each of which breaks the rule that it names and those checked after it.
 pub fn order() {
-    let short = Lent::of(31, 7);
     let job = Grid::new(Kind::Mirror, 4, 2).start();
-    workings::work(
+    let misfit = Grid::new(Kind::Mirror, 4, 2).filling(32, [0, 0, 0]);
+    lend(Grid::new(Kind::Mirror, 3, 2).start(), 31, 7, 9).work(
         "work, mirror boards, width 3, and all below",
-        Grid::new(Kind::Mirror, 3, 2).start(),
         &[2, 2, 2, 0, 3, 0, 0],
-        short,
-        9,
     );
-    workings::work(
+    lend(Grid::new(Kind::Mirror, 22, 2).start(), 31, 7, 9).work(
         "work, mirror boards, width 22, and all below",
-        Grid::new(Kind::Mirror, 22, 2).start(),
         &[2, 2, 2, 0, 3, 0, 0],
-        short,
-        9,
     );
-    workings::work(
+    lend(misfit, 31, 7, 9).work(
         "work, mirror boards, unit 32 in filling, and all below",
-        Grid::new(Kind::Mirror, 4, 2).filling(32, [0, 0, 0]),
         &[2, 2, 2, 0, 3, 0, 0],
-        short,
-        9,
     );
-    workings::work(
+    lend(job, 31, 7, 9).work(
         "work, mirror boards, 7 givens of 8, and all below",
-        job,
         &[2, 2, 2, 0, 3, 0, 0],
-        short,
-        9,
     );
-    workings::work(
+    lend(job, 31, 7, 9).work(
         "work, mirror boards, a mark 3, and all below",
-        job,
         &[2, 2, 2, 0, 3, 0, 0, 0],
-        short,
-        9,
     );
-    workings::work(
+    lend(job, 31, 7, 9).work(
         "work, mirror boards, row 1 given live but its last, and all below",
-        job,
         &[2, 2, 2, 0, 0, 0, 0, 0],
-        short,
-        9,
     );
-    workings::work(
+    lend(job, 31, 7, 9).work(
         "work, mirror boards, the second of row 2 dead, its reflection free, and all below",
-        job,
         &[2, 1, 1, 2, 0, 1, 0, 0],
-        short,
-        9,
     );
-    workings::work(
-        "work, mirror boards, 7 cells of 8, and 31 entries",
-        job,
-        &[0; 8],
-        short,
-        9,
-    );
+    lend(job, 31, 7, 9).work("work, mirror boards, 7 cells of 8, and 31 entries", &[0; 8]);
 }
 
 // On that grid again.
 pub fn memory() {
     let job = Grid::new(Kind::Mirror, 4, 2).start();
-    workings::work(
-        "work, mirror boards, 9 cells of 8, and 31 entries",
-        job,
-        &[0; 8],
-        Lent::of(31, 9),
-        9,
-    );
-    workings::work(
-        "work, mirror boards, 31 entries of 32",
-        job,
-        &[0; 8],
-        Lent::of(31, 8),
-        9,
-    );
-    workings::work(
+    lend(job, 31, 9, 9).work("work, mirror boards, 9 cells of 8, and 31 entries", &[0; 8]);
+    lend(job, 31, 8, 9).work("work, mirror boards, 31 entries of 32", &[0; 8]);
+    lend(job, 32, 8, 9).work(
         "work, mirror boards, the first dead, its reflection free, 32 entries",
-        job,
         &[1, 0, 0, 0, 0, 0, 0, 0],
-        Lent::of(32, 8),
-        9,
     );
 }
 
@@ -98,25 +56,12 @@ pub fn passes() {
     let job = Grid::new(Kind::Mirror, 4, 2).start();
     let free = [0; 8];
     let none = [2, 1, 1, 2, 0, 0, 0, 0];
-    let more = Lent::of(40, 8);
-    workings::work("work, mirror boards, allowance 0", job, &free, more, 0);
-    workings::work("work, mirror boards, allowance 9", job, &free, more, 9);
-    workings::work("work, mirror boards, allowance 33", job, &free, more, 33);
-    workings::work("work, mirror boards, allowance 34", job, &free, more, 34);
-    workings::work(
-        "work, mirror boards, no board, allowance 32",
-        job,
-        &none,
-        more,
-        32,
-    );
-    workings::work(
-        "work, mirror boards, no board, allowance 33",
-        job,
-        &none,
-        more,
-        33,
-    );
+    lend(job, 40, 8, 0).work("work, mirror boards, allowance 0", &free);
+    lend(job, 40, 8, 9).work("work, mirror boards, allowance 9", &free);
+    lend(job, 40, 8, 33).work("work, mirror boards, allowance 33", &free);
+    lend(job, 40, 8, 34).work("work, mirror boards, allowance 34", &free);
+    lend(job, 40, 8, 32).work("work, mirror boards, no board, allowance 32", &none);
+    lend(job, 40, 8, 33).work("work, mirror boards, no board, allowance 33", &none);
 }
 
 // Calls of one unit that chooses row 2 of 4 by 3 over a table whose entries are none but that of row 2 over row 3, both held as 1: 1,200 counts and

@@ -1,31 +1,29 @@
 // Openings.
 use crate::jobs;
+use crate::jobs::Grid;
 use job_kind::Kind;
 use rule::Rule;
 
 // An opening for a job of a kind on a grid, under a rule with Conway's survivals.
 #[derive(Clone, Copy)]
 struct Opening {
-    kind: Kind,
+    grid: Grid,
     rule: Rule,
-    w: usize,
-    h: usize,
 }
 
 fn on(kind: Kind, births: usize, w: usize, h: usize) -> Opening {
     let survivals = 12;
     Opening {
-        kind,
+        grid: Grid::new(kind, w, h),
         rule: Rule { births, survivals },
-        w,
-        h,
     }
 }
 
 impl Opening {
     fn open(self, name: &str, givens: &[u8]) {
+        let grid = self.grid;
         report::text(name);
-        jobs::print_result(job::open(self.kind, self.rule, self.w, self.h, givens));
+        jobs::print_result(job::open(grid.kind, self.rule, grid.w, grid.h, givens));
     }
 }
 

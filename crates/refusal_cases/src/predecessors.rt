@@ -1,70 +1,46 @@
 // Working calls on predecessor jobs, and their numbers.
 use crate::jobs::Grid;
-use crate::workings::Lent;
+use crate::workings::lend;
 use crate::{jobs, ordinary, workings};
 use job::{Checkpoint, Job};
 use job_kind::Kind;
 
-// Calls on a target of 3 by 2, which needs 128 entries, each of which breaks the rule that it names and those checked after it. Three live cells along
-// an edge, and three bytes of 2, are no edge three here.
+// Calls on a target of 3 by 2, which needs 128 entries, each of which breaks the rule that it names and those checked after it. Three live cells
+// along an edge, and three bytes of 2, are no edge three here.
 pub fn order() {
-    let short = Lent::of(127, 5);
     let job = Grid::new(Kind::Predecessor, 3, 2).start();
-    workings::work(
+    let misfit = Grid::new(Kind::Predecessor, 3, 2).filling(128, [0, 0, 0]);
+    lend(Grid::new(Kind::Predecessor, 11, 2).start(), 127, 5, 9).work(
         "work, predecessor, width 11, and all below",
-        Grid::new(Kind::Predecessor, 11, 2).start(),
         &[1, 1, 1, 0, 2],
-        short,
-        9,
     );
-    workings::work(
+    lend(misfit, 127, 5, 9).work(
         "work, predecessor, unit 128 in filling, and all below",
-        Grid::new(Kind::Predecessor, 3, 2).filling(128, [0, 0, 0]),
         &[1, 1, 1, 0, 2],
-        short,
-        9,
     );
-    workings::work(
+    lend(ordinary::with_births(job, 9), 127, 5, 9).work(
         "work, predecessor, births 9, and all below",
-        ordinary::with_births(job, 9),
         &[1, 1, 1, 0, 2],
-        short,
-        9,
     );
-    workings::work(
+    lend(job, 127, 5, 9).work(
         "work, predecessor, 5 cells of the target's 6, and all below",
-        job,
         &[1, 1, 1, 0, 2],
-        short,
-        9,
     );
-    workings::work(
+    lend(job, 127, 5, 9).work(
         "work, predecessor, 7 cells of the target's 6, and all below",
-        job,
         &[1, 1, 1, 0, 2, 0, 0],
-        short,
-        9,
     );
-    workings::work(
+    lend(job, 127, 5, 9).work(
         "work, predecessor, bytes 2 and 3, and all below",
-        job,
         &[1, 1, 1, 0, 2, 3],
-        short,
-        9,
     );
-    workings::work(
+    lend(job, 127, 5, 9).work(
         "work, predecessor, row 1 of 2, and all below",
-        job,
         &[2, 2, 2, 0, 0, 0],
-        short,
-        9,
     );
-    workings::work(
+    lend(job, 127, 5, 9).work(
         "work, predecessor, row 1 live, 5 cells of 6, and 127 entries",
-        job,
         &[1, 1, 1, 0, 0, 0],
-        short,
-        9,
     );
 }
 
@@ -72,26 +48,11 @@ pub fn order() {
 pub fn memory() {
     let job = Grid::new(Kind::Predecessor, 3, 2).start();
     let target = [1, 1, 1, 0, 0, 0];
-    workings::work(
-        "work, predecessor, 7 cells of 6, and 127 entries",
-        job,
-        &target,
-        Lent::of(127, 7),
-        9,
-    );
-    workings::work(
-        "work, predecessor, 127 entries of 128",
-        job,
-        &target,
-        Lent::of(127, 6),
-        9,
-    );
-    workings::work(
+    lend(job, 127, 7, 9).work("work, predecessor, 7 cells of 6, and 127 entries", &target);
+    lend(job, 127, 6, 9).work("work, predecessor, 127 entries of 128", &target);
+    lend(job, 128, 6, 9).work(
         "work, predecessor, a byte 2, 128 entries",
-        job,
         &[1, 2, 1, 0, 0, 0],
-        Lent::of(128, 6),
-        9,
     );
 }
 
@@ -101,30 +62,17 @@ pub fn passes() {
     let job = Grid::new(Kind::Predecessor, 3, 2).start();
     let block = [0, 1, 1, 0, 1, 1];
     let none = [1, 1, 1, 0, 0, 0];
-    let more = Lent::of(140, 6);
-    workings::work("work, predecessor, allowance 0", job, &block, more, 0);
-    workings::work("work, predecessor, allowance 9", job, &block, more, 9);
-    workings::work("work, predecessor, allowance 128", job, &block, more, 128);
-    workings::work("work, predecessor, allowance 129", job, &block, more, 129);
-    workings::work("work, predecessor, allowance 130", job, &block, more, 130);
-    workings::work(
-        "work, predecessor, no board, allowance 128",
-        job,
-        &none,
-        more,
-        128,
-    );
-    workings::work(
-        "work, predecessor, no board, allowance 129",
-        job,
-        &none,
-        more,
-        129,
-    );
+    lend(job, 140, 6, 0).work("work, predecessor, allowance 0", &block);
+    lend(job, 140, 6, 9).work("work, predecessor, allowance 9", &block);
+    lend(job, 140, 6, 128).work("work, predecessor, allowance 128", &block);
+    lend(job, 140, 6, 129).work("work, predecessor, allowance 129", &block);
+    lend(job, 140, 6, 130).work("work, predecessor, allowance 130", &block);
+    lend(job, 140, 6, 128).work("work, predecessor, no board, allowance 128", &none);
+    lend(job, 140, 6, 129).work("work, predecessor, no board, allowance 129", &none);
 }
 
-// Calls of one unit that chooses row 2 of 2 by 3 below row 3, which has to stay 3: rows 1, 2 and 3 can stand there. The entries are none but (2, 3, 1):
-// 600 counts and 601 does not.
+// Calls of one unit that chooses row 2 of 2 by 3 below row 3, which has to stay 3: rows 1, 2 and 3 can stand there. The entries are none but
+// (2, 3, 1): 600 counts and 601 does not.
 pub fn spoiled() {
     choose("spoiled table, predecessor, 600", [600, 65535, 65535]);
     choose("spoiled table, predecessor, 601", [601, 65535, 65535]);

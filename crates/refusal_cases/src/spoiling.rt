@@ -35,7 +35,7 @@ fn call(name: &str, units: usize, allowance: u32, table: &mut [u16], board: &mut
     let above = if units == 50 { 3 } else { 0 };
     let last = if units == 48 { 0 } else { 3 };
     let job = Grid::new(Kind::Ordinary, 2, 3).choosing(units, [above, last, 0]);
-    workings::call(name, job, &[0; 6], table, board, allowance);
+    workings::work_over(name, job, &[0; 6], table, board, allowance);
 }
 
 // What calls left of a table whose entries were one number, and of a board.
@@ -84,7 +84,7 @@ fn choose(job: Job, place: usize) {
 }
 
 fn call_two(job: Job, allowance: u32, table: &mut [u16], board: &mut [u8]) {
-    workings::call(
+    workings::work_over(
         "spoiled table, two layers",
         job,
         &[0; 6],
