@@ -10,47 +10,47 @@ use plain::Row;
 
 fn main() {
     every_number(
-        b"numbers, a cell for each binary digit, in five rows each: ",
+        "numbers, a cell for each binary digit, in five rows each: ",
         1,
     );
     every_number(
-        b"numbers, two cells for each binary digit, in five rows each: ",
+        "numbers, two cells for each binary digit, in five rows each: ",
         2,
     );
     bytes_changed(
-        b"row 1 of 3 cells in a board of 6, bytes changed: ",
+        "row 1 of 3 cells in a board of 6, bytes changed: ",
         3,
         3,
         0,
     );
     bytes_changed(
-        b"row 2 of 3 cells in a board of 6, bytes changed: ",
+        "row 2 of 3 cells in a board of 6, bytes changed: ",
         3,
         3,
         1,
     );
     bytes_changed(
-        b"row 3 of 3 cells in a board of 6, bytes changed: ",
+        "row 3 of 3 cells in a board of 6, bytes changed: ",
         3,
         3,
         2,
     );
     bytes_changed(
-        b"row 2 of 4 cells in a board of 6, bytes changed: ",
+        "row 2 of 4 cells in a board of 6, bytes changed: ",
         4,
         4,
         1,
     );
-    bytes_changed(b"row 2^64 of 3 cells, bytes changed: ", 3, 3, usize::MAX);
+    bytes_changed("row 2^64 of 3 cells, bytes changed: ", 3, 3, usize::MAX);
     bytes_changed(
-        b"row 2 of 2^63 cells, bytes changed: ",
+        "row 2 of 2^63 cells, bytes changed: ",
         3,
         9223372036854775808,
         1,
     );
-    bytes_changed(b"row 1 of no cells, bytes changed: ", 3, 0, 0);
+    bytes_changed("row 1 of no cells, bytes changed: ", 3, 0, 0);
     bytes_changed(
-        b"row 1 of 6 cells, 100 binary digits, bytes changed: ",
+        "row 1 of 6 cells, 100 binary digits, bytes changed: ",
         100,
         6,
         0,
@@ -58,7 +58,7 @@ fn main() {
 }
 
 // Every number of up to ten binary digits, as a row of so many cells for each digit.
-fn every_number(name: &[u8], cells: usize)
+fn every_number(name: &str, cells: usize)
     requires { cells ≤ 2 }
 {
     let mut tried = 0usize;
@@ -69,11 +69,11 @@ fn every_number(name: &[u8], cells: usize)
         wrong = wrong.wrapping_add(plain::wrong_numbers(bits, cells * bits, numbers));
     }
     report::line(name, tried);
-    report::line(b"  bytes other than they should be: ", wrong);
+    report::line("  bytes other than they should be: ", wrong);
 }
 
 // Writes the row of all live cells into a board of 9s.
-fn bytes_changed(name: &[u8], bits: usize, cells: usize, above: usize) {
+fn bytes_changed(name: &str, bits: usize, cells: usize, above: usize) {
     let row = Row {
         bits,
         cells,

@@ -11,7 +11,7 @@ use lib.Dec.{eqb, ltb}
 use Rattle.board.specs.Boards.{max_height, Width}
 use Rattle.elimination.specs.Task.{row, is_fill}
 use Rattle.elimination.specs.Rounds.{InRound, round_fill, Rounds}
-use Rattle.elimination.proofs.Numbers.{lt_or_ge}
+use Rattle.std.proofs.lemmas.Bool.{cases_lt}
 use Rattle.elimination.proofs.Rounds.{Does, fills, chooses, rests, does, until, fills_until, round_past, chosen_round}
 use Rattle.job_kind.specs.Kinds.{halves_of, kind_digits, board_length, chosen_in, shape_of, round_work, layer_start, course_of}
 use Rattle.job.specs.Inner.{RoundIs}
@@ -58,7 +58,7 @@ module _ {kind : Kind} {w h u : ℕ} {x : Round} (R : RoundIs kind w h u x) wher
       ⊎_elim
       (λ (a : x.rows < h). fills_until S (at_on n l) a ∙ left_on x.place n x.left (round_work kind w h x.rows) (R.rest a) l)
       (λ (a : h ≤ x.rows). round_past S (at_on n l) a ∙ sym (ap not (eq-eqb x.left n (omega (arith, R.past a)))))
-      (lt_or_ge x.rows h)
+      (cases_lt x.rows h)
 
   pub fills_left : is_fill ((shape_of kind w h).plan u) ≡ not (eqb x.left 0)
   fills_left = ap (λ (v : ℕ). is_fill ((shape_of kind w h).plan v)) (sym (add-zero u)) ∙ fills_on 0 (omega arith)
@@ -76,7 +76,7 @@ module _ {kind : Kind} {w h u : ℕ} {x : Round} (R : RoundIs kind w h u x) wher
       ⊎_elim
       (λ (c : x.rows < h). omega (arith, until S (at_on n l) c, length_le kind a b))
       (λ (c : h ≤ x.rows). omega (arith, R.past c))
-      (lt_or_ge x.rows h)
+      (cases_lt x.rows h)
 
   -- no row is left: the units are the length, and as many more as its place says
   pub rows_done : h ≤ x.rows → u ≡ board_length kind w h + x.place

@@ -23,16 +23,16 @@ impl Tally {
         self.wrong = self.wrong.wrapping_add(wrong);
     }
 
-    fn print(self, name: &[u8]) {
+    fn print(self, name: &str) {
         report::line(name, self.calls);
-        report::line(b"  entries changed: ", self.changed);
-        report::line(b"  calls that changed none: ", self.kept);
-        report::line(b"  differences: ", self.wrong);
+        report::line("  entries changed: ", self.changed);
+        report::line("  calls that changed none: ", self.kept);
+        report::line("  differences: ", self.wrong);
     }
 }
 
 // A group of calls, each made either way over the same leftovers, in two tables.
-pub fn try_group(name: &[u8], group: Group, calls: usize, a: &mut [u16], b: &mut [u16]) {
+pub fn try_group(name: &str, group: Group, calls: usize, a: &mut [u16], b: &mut [u16]) {
     let mut tally = Tally::default();
     for seed in 0..calls {
         try_call(group, seed, a, b, &mut tally);
@@ -92,7 +92,7 @@ fn changed(limit: usize, seed: usize, table: &[u16]) -> usize {
 }
 
 // A whole layer of a width, in one table, since two would be more than a program's stack holds.
-pub fn try_wide(name: &[u8], w: usize, limit: usize, seed: usize, table: &mut [u16]) {
+pub fn try_wide(name: &str, w: usize, limit: usize, seed: usize, table: &mut [u16]) {
     let mut call = calls::whole(w, board::table_size(w, 1), seed);
     call.want.limit = limit;
     let next = rule::table::conway();
@@ -102,7 +102,7 @@ pub fn try_wide(name: &[u8], w: usize, limit: usize, seed: usize, table: &mut [u
     fill_wide(name, grid, call, seed, &mut table[..places]);
 }
 
-fn fill_wide(name: &[u8], grid: Grid<'_>, call: Call, seed: usize, table: &mut [u16]) {
+fn fill_wide(name: &str, grid: Grid<'_>, call: Call, seed: usize, table: &mut [u16]) {
     memory::spoil(grid.want.limit, seed, table);
     layers::fill(grid, call.entries, table);
     let mut tally = Tally::default();
@@ -138,7 +138,7 @@ fn write_place(grid: Grid<'_>, entries: Entries, seed: usize, k: usize, table: &
 }
 
 // Rows chosen over leftovers, each by the plain search too.
-pub fn try_rows(name: &[u8], halves: bool, target: bool, calls: usize, table: &mut [u16]) {
+pub fn try_rows(name: &str, halves: bool, target: bool, calls: usize, table: &mut [u16]) {
     let mut tally = Tally::default();
     for seed in 0..calls {
         try_row(
@@ -149,8 +149,8 @@ pub fn try_rows(name: &[u8], halves: bool, target: bool, calls: usize, table: &m
         );
     }
     report::line(name, tally.calls);
-    report::line(b"  rows found: ", tally.changed);
-    report::line(b"  differences: ", tally.wrong);
+    report::line("  rows found: ", tally.changed);
+    report::line("  differences: ", tally.wrong);
 }
 
 fn try_row(call: Call, seed: usize, table: &mut [u16], tally: &mut Tally) {

@@ -27,52 +27,52 @@ fn try_all(a: &mut [u16], b: &mut [u16], wide: &mut [u16]) {
 }
 
 fn try_whole_layers(a: &mut [u16], b: &mut [u16]) {
-    fills::try_group(b"whole layers, Conway's rule: ", Group::Conway, 300, a, b);
-    fills::try_group(b"whole layers, other rules: ", Group::Rules, 300, a, b);
+    fills::try_group("whole layers, Conway's rule: ", Group::Conway, 300, a, b);
+    fills::try_group("whole layers, other rules: ", Group::Rules, 300, a, b);
     fills::try_group(
-        b"whole layers, tables of no rule: ",
+        "whole layers, tables of no rule: ",
         Group::Bytes,
         300,
         a,
         b,
     );
-    fills::try_group(b"whole layers, other wants: ", Group::Wants, 240, a, b);
+    fills::try_group("whole layers, other wants: ", Group::Wants, 240, a, b);
 }
 
 fn try_other_layers(a: &mut [u16], b: &mut [u16]) {
     fills::try_group(
-        b"layers over the one that is read: ",
+        "layers over the one that is read: ",
         Group::Overlapping,
         240,
         a,
         b,
     );
-    fills::try_group(b"last layers: ", Group::Last, 120, a, b);
-    fills::try_group(b"layers of widths 0 to 2: ", Group::Narrow, 360, a, b);
+    fills::try_group("last layers: ", Group::Last, 120, a, b);
+    fills::try_group("layers of widths 0 to 2: ", Group::Narrow, 360, a, b);
 }
 
 fn try_other_calls(a: &mut [u16], b: &mut [u16]) {
-    fills::try_group(b"parts of layers: ", Group::Parts, 240, a, b);
-    fills::try_group(b"calls to be refused: ", Group::Refused, 240, a, b);
+    fills::try_group("parts of layers: ", Group::Parts, 240, a, b);
+    fills::try_group("calls to be refused: ", Group::Refused, 240, a, b);
 }
 
 fn try_halves(a: &mut [u16], b: &mut [u16]) {
     fills::try_group(
-        b"layers of halves, against a plain search: ",
+        "layers of halves, against a plain search: ",
         Group::Halves,
         240,
         a,
         b,
     );
     fills::try_group(
-        b"layers of halves to be refused: ",
+        "layers of halves to be refused: ",
         Group::HalvesRefused,
         80,
         a,
         b,
     );
     fills::try_rows(
-        b"rows by halves, against a plain search: ",
+        "rows by halves, against a plain search: ",
         true,
         false,
         240,
@@ -82,28 +82,28 @@ fn try_halves(a: &mut [u16], b: &mut [u16]) {
 
 fn try_targets(a: &mut [u16], b: &mut [u16]) {
     fills::try_group(
-        b"layers of a target, against a plain search: ",
+        "layers of a target, against a plain search: ",
         Group::Targets,
         240,
         a,
         b,
     );
     fills::try_rows(
-        b"rows of a target, against a plain search: ",
+        "rows of a target, against a plain search: ",
         false,
         true,
         960,
         a,
     );
     fills::try_group(
-        b"layers of a target by halves, against a plain search: ",
+        "layers of a target by halves, against a plain search: ",
         Group::TargetHalves,
         240,
         a,
         b,
     );
     fills::try_rows(
-        b"rows of a target by halves, against a plain search: ",
+        "rows of a target by halves, against a plain search: ",
         true,
         true,
         960,
@@ -112,11 +112,11 @@ fn try_targets(a: &mut [u16], b: &mut [u16]) {
 }
 
 fn try_wide_layers(table: &mut [u16]) {
-    fills::try_wide(b"a whole layer of width 8: ", 8, 600, 1, table);
-    fills::try_wide(b"a whole layer of width 9: ", 9, 600, 2, table);
-    fills::try_wide(b"a whole layer of width 10: ", 10, 600, 3, table);
+    fills::try_wide("a whole layer of width 8: ", 8, 600, 1, table);
+    fills::try_wide("a whole layer of width 9: ", 9, 600, 2, table);
+    fills::try_wide("a whole layer of width 10: ", 10, 600, 3, table);
     fills::try_wide(
-        b"a whole layer of width 10, the greatest limit: ",
+        "a whole layer of width 10, the greatest limit: ",
         10,
         65524,
         4,

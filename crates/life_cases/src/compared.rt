@@ -7,32 +7,32 @@ use rule::Rule;
 
 pub fn conway() {
     let counts = Counts::of(&[3], &[2, 3]);
-    every_3_by_3(b"boards of 3 by 3, still of 512: ", counts);
+    every_3_by_3("boards of 3 by 3, still of 512: ", counts);
     every_size(counts);
 }
 
 // Rules with a name.
 pub fn other_rules() {
     every_3_by_3(
-        b"HighLife, boards of 3 by 3, still of 512: ",
+        "HighLife, boards of 3 by 3, still of 512: ",
         Counts::of(&[3, 6], &[2, 3]),
     );
     every_3_by_3(
-        b"Day & Night, boards of 3 by 3, still of 512: ",
+        "Day & Night, boards of 3 by 3, still of 512: ",
         Counts::of(&[3, 6, 7, 8], &[3, 4, 6, 7, 8]),
     );
     every_3_by_3(
-        b"Seeds, boards of 3 by 3, still of 512: ",
+        "Seeds, boards of 3 by 3, still of 512: ",
         Counts::of(&[2], &[]),
     );
     every_3_by_3(
-        b"Life without death, boards of 3 by 3, still of 512: ",
+        "Life without death, boards of 3 by 3, still of 512: ",
         Counts::of(&[3], &[0, 1, 2, 3, 4, 5, 6, 7, 8]),
     );
 }
 
 // All 512 boards of 3 by 3.
-fn every_3_by_3(name: &[u8], counts: Counts) {
+fn every_3_by_3(name: &str, counts: Counts) {
     let rule = Rule::from(counts);
     let mut still = 0usize;
     let mut wrong = 0usize;
@@ -44,7 +44,7 @@ fn every_3_by_3(name: &[u8], counts: Counts) {
         wrong = wrong.wrapping_add(differences(counts, 3, 3, &cells, &mut [9; 25]));
     }
     report::line(name, still);
-    report::line(b"  differences from the plain count: ", wrong);
+    report::line("  differences from the plain count: ", wrong);
 }
 
 // Ten pseudo-random boards of every size.
@@ -59,7 +59,7 @@ fn every_size(counts: Counts) {
         wrong = wrong.wrapping_add(differences(counts, w, h, &cells, &mut [9; 744]));
     }
     report::line(
-        b"boards of all 600 sizes, ten of each: differences from the plain count: ",
+        "boards of all 600 sizes, ten of each: differences from the plain count: ",
         wrong,
     );
 }
@@ -77,7 +77,7 @@ pub fn random_rules() {
         wrong = wrong.wrapping_add(differences(counts, w, h, &cells, &mut [9; 64]));
     }
     report::line(
-        b"1800 rules, boards of up to 6 by 6: differences from the plain count: ",
+        "1800 rules, boards of up to 6 by 6: differences from the plain count: ",
         wrong,
     );
 }

@@ -3,6 +3,8 @@
 #![tactic(auto)]
 
 use life::Change;
+use report::Output;
+use std::fmt::Write;
 use plain::digits;
 use rule::Rule;
 
@@ -28,41 +30,41 @@ fn main() {
 
 // Boards with a name, each with its verdict.
 fn known_boards() {
-    judge(b"block", rule::conway(), 2, 2, &digits::<4>(0b11_11));
+    judge("block", rule::conway(), 2, 2, &digits::<4>(0b11_11));
     judge(
-        b"blinker",
+        "blinker",
         rule::conway(),
         5,
         3,
         &digits::<15>(0b00000_01110_00000),
     );
-    judge(b"tub", rule::conway(), 3, 3, &digits::<9>(0b010_101_010));
-    judge(b"boat", rule::conway(), 3, 3, &digits::<9>(0b110_101_010));
+    judge("tub", rule::conway(), 3, 3, &digits::<9>(0b010_101_010));
+    judge("boat", rule::conway(), 3, 3, &digits::<9>(0b110_101_010));
     judge(
-        b"beehive",
+        "beehive",
         rule::conway(),
         4,
         3,
         &digits::<12>(0b0110_1001_0110),
     );
     judge(
-        b"rows 3, 5, 6",
+        "rows 3, 5, 6",
         rule::conway(),
         3,
         3,
         &digits::<9>(0b011_101_110),
     );
-    judge(b"row of three", rule::conway(), 3, 1, &digits::<3>(0b111));
-    judge(b"10 by 60, dead", rule::conway(), 10, 60, &[0; 600]);
-    judge(b"10 by 60, live", rule::conway(), 10, 60, &[1; 600]);
+    judge("row of three", rule::conway(), 3, 1, &digits::<3>(0b111));
+    judge("10 by 60, dead", rule::conway(), 10, 60, &[0; 600]);
+    judge("10 by 60, live", rule::conway(), 10, 60, &[1; 600]);
 }
 
 // The table's entries for some patterns.
 fn patterns() {
     let next = rule::table::conway();
-    report::line(b"pattern 7: ", next[7] as usize);
-    report::line(b"pattern 16: ", next[16] as usize);
-    report::line(b"pattern 511: ", next[511] as usize);
+    report::line("pattern 7: ", next[7] as usize);
+    report::line("pattern 16: ", next[16] as usize);
+    report::line("pattern 511: ", next[511] as usize);
 }
 
 // A rule with births on 0 and 3.
@@ -78,7 +80,7 @@ fn steps_refused() {
     let cells = digits::<3>(0b111);
     let block = digits::<4>(0b11_11);
     step(
-        b"step, width 0, height 61",
+        "step, width 0, height 61",
         barred(),
         0,
         61,
@@ -86,7 +88,7 @@ fn steps_refused() {
         &mut [9; 15],
     );
     step(
-        b"step, width 11, height 0",
+        "step, width 11, height 0",
         barred(),
         11,
         0,
@@ -94,7 +96,7 @@ fn steps_refused() {
         &mut [9; 15],
     );
     step(
-        b"step, height 0, births on 0",
+        "step, height 0, births on 0",
         barred(),
         2,
         0,
@@ -102,7 +104,7 @@ fn steps_refused() {
         &mut [9; 15],
     );
     step(
-        b"step, height 61, births on 0",
+        "step, height 61, births on 0",
         barred(),
         2,
         61,
@@ -110,7 +112,7 @@ fn steps_refused() {
         &mut [9; 15],
     );
     step(
-        b"step, births on 0, 3 cells of 4",
+        "step, births on 0, 3 cells of 4",
         barred(),
         2,
         2,
@@ -118,7 +120,7 @@ fn steps_refused() {
         &mut [9; 15],
     );
     step(
-        b"step, 3 cells of 4",
+        "step, 3 cells of 4",
         rule::conway(),
         2,
         2,
@@ -126,7 +128,7 @@ fn steps_refused() {
         &mut [9; 15],
     );
     step(
-        b"step, 5 cells of 4",
+        "step, 5 cells of 4",
         rule::conway(),
         2,
         2,
@@ -134,15 +136,15 @@ fn steps_refused() {
         &mut [9; 15],
     );
     report::check(
-        b"step, cells 0, 1, 2 of 4",
+        "step, cells 0, 1, 2 of 4",
         life::step(rule::conway(), 2, 2, &[0, 1, 2], &mut [9; 15]),
     );
     report::check(
-        b"step, cells 0, 1, 2, 3",
+        "step, cells 0, 1, 2, 3",
         life::step(rule::conway(), 2, 2, &[0, 1, 2, 3], &mut [9; 15]),
     );
     step(
-        b"step, a ring of 15 bytes",
+        "step, a ring of 15 bytes",
         rule::conway(),
         2,
         2,
@@ -150,7 +152,7 @@ fn steps_refused() {
         &mut [9; 15],
     );
     step(
-        b"step, a ring of 17 bytes",
+        "step, a ring of 17 bytes",
         rule::conway(),
         2,
         2,
@@ -158,7 +160,7 @@ fn steps_refused() {
         &mut [9; 17],
     );
     step(
-        b"step, a ring of 16 bytes",
+        "step, a ring of 16 bytes",
         rule::conway(),
         2,
         2,
@@ -169,22 +171,22 @@ fn steps_refused() {
 
 fn judgements_refused() {
     let cells = [0; 3];
-    judge(b"judge, width 0, height 61", barred(), 0, 61, &cells);
-    judge(b"judge, width 11, height 0", barred(), 11, 0, &cells);
-    judge(b"judge, height 0, births on 0", barred(), 2, 0, &cells);
-    judge(b"judge, height 61, births on 0", barred(), 2, 61, &cells);
-    judge(b"judge, births on 0, 3 cells of 4", barred(), 2, 2, &cells);
-    judge(b"judge, 3 cells of 4", rule::conway(), 2, 2, &cells);
-    judge(b"judge, 5 cells of 4", rule::conway(), 2, 2, &[0; 5]);
+    judge("judge, width 0, height 61", barred(), 0, 61, &cells);
+    judge("judge, width 11, height 0", barred(), 11, 0, &cells);
+    judge("judge, height 0, births on 0", barred(), 2, 0, &cells);
+    judge("judge, height 61, births on 0", barred(), 2, 61, &cells);
+    judge("judge, births on 0, 3 cells of 4", barred(), 2, 2, &cells);
+    judge("judge, 3 cells of 4", rule::conway(), 2, 2, &cells);
+    judge("judge, 5 cells of 4", rule::conway(), 2, 2, &[0; 5]);
     judge(
-        b"judge, cells 0, 255, 1 of 4",
+        "judge, cells 0, 255, 1 of 4",
         rule::conway(),
         2,
         2,
         &[0, 255, 1],
     );
     judge(
-        b"judge, cells 0, 255, 1, 2",
+        "judge, cells 0, 255, 1, 2",
         rule::conway(),
         2,
         2,
@@ -194,65 +196,62 @@ fn judgements_refused() {
 
 fn givens_refused() {
     report::check(
-        b"givens 0, 1, 2, 0",
+        "givens 0, 1, 2, 0",
         board::check_givens(2, 2, &[0, 1, 2, 0]),
     );
-    report::check(b"givens 0, 1, 2", board::check_givens(2, 2, &[0, 1, 2]));
+    report::check("givens 0, 1, 2", board::check_givens(2, 2, &[0, 1, 2]));
     report::check(
-        b"givens 0, 1, 2, 0, 3",
+        "givens 0, 1, 2, 0, 3",
         board::check_givens(2, 2, &[0, 1, 2, 0, 3]),
     );
     report::check(
-        b"givens 0, 3, 2, 4",
+        "givens 0, 3, 2, 4",
         board::check_givens(2, 2, &[0, 3, 2, 4]),
     );
 }
 
 fn targets_refused() {
     report::check(
-        b"target 0, 1, 1, 0",
+        "target 0, 1, 1, 0",
         board::check_target(2, 2, &[0, 1, 1, 0]),
     );
-    report::check(b"target 0, 1, 2", board::check_target(2, 2, &[0, 1, 2]));
+    report::check("target 0, 1, 2", board::check_target(2, 2, &[0, 1, 2]));
     report::check(
-        b"target 0, 1, 1, 0, 2",
+        "target 0, 1, 1, 0, 2",
         board::check_target(2, 2, &[0, 1, 1, 0, 2]),
     );
     report::check(
-        b"target 0, 1, 2, 0",
+        "target 0, 1, 2, 0",
         board::check_target(2, 2, &[0, 1, 2, 0]),
     );
     report::check(
-        b"target 0, 255, 2, 1",
+        "target 0, 255, 2, 1",
         board::check_target(2, 2, &[0, 255, 2, 1]),
     );
-    report::check(b"target of no cell", board::check_target(2, 0, &[]));
+    report::check("target of no cell", board::check_target(2, 0, &[]));
     report::check(
-        b"target of 3 by 2",
+        "target of 3 by 2",
         board::check_target(3, 2, &[0, 1, 1, 0, 1, 1]),
     );
     report::check(
-        b"the same as 2 by 2",
+        "the same as 2 by 2",
         board::check_target(2, 2, &[0, 1, 1, 0, 1, 1]),
     );
 }
 
 // Steps a board into nines, and prints how many bytes are no nine afterwards.
-fn step(name: &[u8], rule: Rule, w: usize, h: usize, cells: &[u8], ring: &mut [u8]) {
+fn step(name: &str, rule: Rule, w: usize, h: usize, cells: &[u8], ring: &mut [u8]) {
     report::check(name, life::step(rule, w, h, cells, ring));
-    report::line(b"  bytes written: ", plain::other_than(ring, 9));
+    report::line("  bytes written: ", plain::other_than(ring, 9));
 }
 
 // A line: a name and a board's verdict.
-fn judge(name: &[u8], rule: Rule, w: usize, h: usize, cells: &[u8]) {
-    report::text(name);
+fn judge(name: &str, rule: Rule, w: usize, h: usize, cells: &[u8]) {
     match life::judge(rule, w, h, cells) {
-        Ok(None) => report::text(b": still\n"),
+        Ok(None) => report::line(name, ": still"),
         Ok(Some(Change { row, column })) => {
-            report::text(b": changes at row ");
-            report::number(row);
-            report::line(b", column ", column);
+            let _ = writeln!(Output, "{name}: changes at row {row}, column {column}");
         }
-        Err(r) => report::refusal(r),
+        Err(r) => report::check(name, Err(r)),
     }
 }

@@ -16,8 +16,8 @@ pub fn random_rules() {
         }
         wrong = wrong.wrapping_add(differences(counts));
     }
-    report::line(b"tables of 400 rules, not barred: ", allowed);
-    report::line(b"  differences from the plain count: ", wrong);
+    report::line("tables of 400 rules, not barred: ", allowed);
+    report::line("  differences from the plain count: ", wrong);
 }
 
 // Conway's table against the constant one.
@@ -26,7 +26,7 @@ pub fn conway() {
     let mut table = [9; 512];
     let _ = rule::table::generate(rule::conway(), &mut table);
     report::line(
-        b"Conway's table, differences from the constant one: ",
+        "Conway's table, differences from the constant one: ",
         table
             .iter()
             .zip(constant.iter())
@@ -46,8 +46,8 @@ pub fn cases() {
         }
         compared = compared.wrapping_add(1);
     }
-    report::line(b"constants compared with Conway's cases: ", compared);
-    report::line(b"  differences: ", wrong);
+    report::line("constants compared with Conway's cases: ", compared);
+    report::line("  differences: ", wrong);
 }
 
 // The live cells of nine, without the middle one.
@@ -79,15 +79,15 @@ fn differences(counts: Counts) -> usize {
 
 // Each refusal of the generator, 13 also with what 6 would refuse.
 pub fn refused() {
-    fill(b"table, births on 0, 511 entries", 9, 12, &mut [9; 511]);
-    fill(b"table, births on 9, 512 entries", 520, 12, &mut [9; 512]);
-    fill(b"table, survivals on 9, 513 entries", 8, 524, &mut [9; 513]);
-    fill(b"table, no entry", 8, 12, &mut [9; 0]);
-    fill(b"table, 511 entries", 8, 12, &mut [9; 511]);
-    fill(b"table, 513 entries", 8, 12, &mut [9; 513]);
-    fill(b"table, 512 entries", 8, 12, &mut [9; 512]);
+    fill("table, births on 0, 511 entries", 9, 12, &mut [9; 511]);
+    fill("table, births on 9, 512 entries", 520, 12, &mut [9; 512]);
+    fill("table, survivals on 9, 513 entries", 8, 524, &mut [9; 513]);
+    fill("table, no entry", 8, 12, &mut [9; 0]);
+    fill("table, 511 entries", 8, 12, &mut [9; 511]);
+    fill("table, 513 entries", 8, 12, &mut [9; 513]);
+    fill("table, 512 entries", 8, 12, &mut [9; 512]);
     fill(
-        b"table, all counts but births on 0",
+        "table, all counts but births on 0",
         510,
         511,
         &mut [9; 512],
@@ -95,10 +95,10 @@ pub fn refused() {
 }
 
 // Fills entries of nines, and prints how many are no nine afterwards.
-fn fill(name: &[u8], births: usize, survivals: usize, table: &mut [u8]) {
+fn fill(name: &str, births: usize, survivals: usize, table: &mut [u8]) {
     report::check(
         name,
         rule::table::generate(Rule { births, survivals }, table),
     );
-    report::line(b"  entries written: ", plain::other_than(table, 9));
+    report::line("  entries written: ", plain::other_than(table, 9));
 }

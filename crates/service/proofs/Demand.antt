@@ -9,7 +9,7 @@ use native.Mathlib.Omega.{arith}
 use Rattle.board.specs.Answers.{Answer, gives, refuses, passed, Checked}
 use Rattle.board.proofs.Answers.{refuses_none}
 use Rattle.elimination.specs.Machine.{advance}
-use Rattle.elimination.proofs.Numbers.{lt_or_ge}
+use Rattle.std.proofs.lemmas.Bool.{cases_lt}
 use Rattle.elimination.proofs.Machine.{advance_zero, after_units}
 use Rattle.job.proofs.Fits.{pausable}
 use Rattle.service.specs.Service.{State, Service, infeasible}
@@ -29,7 +29,7 @@ module _ (S : Service) (A : Aim S.Table) (given : S.Given) (s : State S.Table) (
         (λ (l : long ≤ m).
         let e : long ≡ min m long = omega arith in
         (after_units L.M C.lasts m).stays l ∙ ap (λ (x : ℕ). advance L.M x (L.follows.view s)) e)
-        (lt_or_ge m long)
+        (cases_lt m long)
 
     served : (cs : List (Call S)) → Each S (Fair S given) cs s → Served S A long final wanted cs s
     served cs f =

@@ -16,7 +16,7 @@ use Rattle.board.specs.Lists.{listed}
 use Rattle.board.proofs.Lists.{get_d_listed}
 use Rattle.board.proofs.Tests.{among_yes}
 use Rattle.elimination.specs.Boards.{previous_row}
-use Rattle.elimination.proofs.Numbers.{lt_or_ge}
+use Rattle.std.proofs.lemmas.Bool.{cases_lt}
 use Rattle.mirror.specs.Mirror.{Mirrored}
 use Rattle.mirror.proofs.Theorems.{mirrored_cells}
 use Rattle.rule.specs.declared.Rule.{Rule}
@@ -98,7 +98,7 @@ module _ {w h : ℕ} {cells : List ℕ} (even : w % 2 ≡ 0) (b : Bytes 1 w h ce
       (λ (q : w / 2 ≤ k).
       let e : 2 * (w / 2) - (k + 1) ≡ w - 1 - k = omega arith in
       sym (rw e at (row_reflects (w / 2) half k (omega arith))) ∙ half_left (w - 1 - k) (omega arith) ∙ (mirrored_cells w h cells b.long).0 M r k inside l)
-      (lt_or_ge k (w / 2))
+      (cases_lt k (w / 2))
 
   whole_half : whole_row w half ≡ row_number cells (r * w) w
   whole_half = sym (digits_read w (whole_row w half) (whole_lt w half) cells (r * w) (λ k l. sym (half_cell k l) ∙ sym (whole_cell w half k l)))

@@ -14,7 +14,7 @@ use Rattle.elimination.specs.Endings.{Ending, total, BestEnding}
 use Rattle.elimination.specs.Boards.{rows_from, BoardLaws, BestBoard}
 use Rattle.elimination.specs.Completion.{write_rows}
 use Rattle.elimination.specs.Rows.{RowWriter}
-use Rattle.elimination.proofs.Numbers.{lt_or_ge}
+use Rattle.std.proofs.lemmas.Bool.{cases_lt}
 use Rattle.elimination.proofs.Sums.{equal_tied}
 use Rattle.elimination.proofs.Endings.{ending_length}
 use Rattle.elimination.proofs.Boards.{from_at, board_total, best_board}
@@ -60,7 +60,7 @@ module _ (halves : Bool) (w h r c : ℕ) (β : List ℕ) where
       (λ (e : r ≤ i).
       let s : i ≡ r = omega arith in
       rw (s, put_same q m f) (written_cell (row_cell (row_digits halves w) c) β (r * w) w k n (omega arith)))
-      (lt_or_ge i r)
+      (cases_lt i r)
 
 -- ---- many rows written
 -- every row is a row's number

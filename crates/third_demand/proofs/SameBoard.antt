@@ -10,7 +10,7 @@ use native.Mathlib.Nat.{le_antisymm}
 use borrow.Author.Tests.{ltb-true}
 use Rattle.elimination.specs.Order.{row_before}
 use Rattle.elimination.specs.Boards.{Earlier}
-use Rattle.elimination.proofs.Numbers.{lt_or_ge}
+use Rattle.std.proofs.lemmas.Bool.{cases_lt}
 use Rattle.rule.specs.declared.Rule.{Rule}
 use Rattle.service.specs.Demand.{Call, Aim, Served, Outcome}
 use Rattle.service.specs.Demand as Shared
@@ -38,8 +38,8 @@ never_both {greater_first} {h} {row} {other} P Q =
     ⊎_elim (λ (l : P.place < Q.place). not_before greater_first _ _ P.decides (inl (Q.equal P.place l)))
     (λ (l : Q.place ≤ P.place).
     ⊎_elim (λ (m : Q.place < P.place). not_before greater_first _ _ Q.decides (inl (P.equal Q.place m)))
-    (λ (m : P.place ≤ Q.place). same (le_antisymm m l)) (lt_or_ge Q.place P.place))
-    (lt_or_ge P.place Q.place)
+    (λ (m : P.place ≤ Q.place). same (le_antisymm m l)) (cases_lt Q.place P.place))
+    (cases_lt P.place Q.place)
   where
     same : P.place ≡ Q.place → ⊥
     same e = not_before greater_first _ _ (rw e at P.decides) (inr Q.decides)

@@ -20,7 +20,7 @@ use Rattle.elimination.specs.Kind.{entry, right_entry, right_rows, worth_of}
 use Rattle.elimination.specs.Kind as Elimination
 use Rattle.elimination.specs.Endings.{total, Solved, no_ending, an_ending}
 use Rattle.elimination.specs.Boards.{BoardSolved, the_best, no_board}
-use Rattle.elimination.proofs.Numbers.{lt_or_ge}
+use Rattle.std.proofs.lemmas.Bool.{cases_lt}
 use Rattle.elimination.proofs.Kind.{entry_more, right_entry_last, right_entry_more, choose_ext}
 use Rattle.elimination.proofs.Sums.{tied_equal}
 use Rattle.elimination.proofs.Endings.{total_none, total_more, elimination_solves, ending_counts}
@@ -83,7 +83,7 @@ module _ {w h : ℕ} {board other : List ℕ} (B : BoardBy true w h board) (O : 
   same_test =
       ⊎_elim (λ (l : half_of w h board r < half_of w h other r). lt-ltb _ _ l ∙ sym (lt-ltb _ _ (smaller_row B O r inside l)))
       (λ (l : half_of w h other r ≤ half_of w h board r). le-ltb _ _ l ∙ sym (le-ltb _ _ (no_greater l)))
-      (lt_or_ge (half_of w h board r) (half_of w h other r))
+      (cases_lt (half_of w h board r) (half_of w h other r))
     where
       no_greater : half_of w h other r ≤ half_of w h board r → row_of w h other r ≤ row_of w h board r
       no_greater l =
