@@ -10,8 +10,7 @@ use native.Mathlib.Numerals.{add-one}
 use native.Mathlib.Omega.{arith}
 use borrow.Author.Tests.{leb-true}
 use lib.Dec.{leb}
-use lib.ListN.{get_or, take}
-use Rattle.std.proofs.lemmas.List.{get_or-take}
+use lib.ListN.{get_or}
 use Rattle.board.specs.Boards.{Width}
 use Rattle.board.specs.Search.{first_not}
 use Rattle.board.proofs.Search.{Searched, all_pass, searched, all_of, all_false}
@@ -31,10 +30,6 @@ use Rattle.score_table.proofs.Skipping.{skipped_same, skip_past}
 use Rattle.score_table.proofs.Marks.{row_worth_le}
 use Rattle.score_table.specs.declared.Want.{Want}
 use Rattle.score_table.specs.declared.best.Best.{Best}
-
--- the first columns of all, and no more
-pub columns_taken : (w a b t : ℕ) (columns : List ℕ) → Columns w a b t columns → Columns w a b t (take (w + 2) columns)
-columns_taken w a b t columns C = record { at = λ j l. get_or-take _ _ _ _ l ∙ C.at j l }
 
 module _ (want : Want) (next : ℕ → ℕ) (w : ℕ) (givens : List ℕ) (at a b t : ℕ) (read : ℕ → ℕ) where
   abbrev pub G : Kind ℕ

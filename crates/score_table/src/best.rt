@@ -105,11 +105,14 @@ pub fn best_row(
             break held;
         }
         let row = rows::row_for(want, w, c);
-        for (j, column) in columns[..w + 2].iter().enumerate() {
-            if !rows::passes(grid.next, w, *column, row, j) {
+        // By hand and with `!=`, for speed: an iterator over the columns takes a fifth more instructions a column, and a range more than this.
+        let mut j = 0;
+        while j != w + 2 {
+            if !rows::passes(grid.next, w, columns[j], row, j) {
                 c = next_row(bits, c, j);
                 continue 'rows;
             }
+            j += 1;
         }
         let offered = offer(want.limit, marks, row, table[first + c]);
         held = consider(want, held, c, offered);

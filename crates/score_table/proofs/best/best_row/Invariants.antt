@@ -1,7 +1,7 @@
--- `score_table::best::best_row` meets its contract. The invariants: what is held is the best of the rows below c; no column passed fails. The measure:
--- the rows left.
+-- `score_table::best::best_row` meets its contract. The invariants: what is held is the best of the rows below c; no column passed fails. The measures:
+-- the rows left, and the columns left.
 -- Assumes nothing.
-use Rattle.std.specs.Prelude.{◌≡◌, ◌-◌, ◌≤◌, None, get_or}
+use Rattle.std.specs.Prelude.{◌+◌, ◌≡◌, ◌-◌, ◌≤◌, None, get_or}
 use Rattle.board.specs.Search.{first_not}
 use Rattle.rule.specs.Rule.{entry_of}
 use Rattle.score_table.specs.ScoreTable.{reads_from}
@@ -17,4 +17,7 @@ abbrev pub decreases-rows : goal.decreases-rows
 decreases-rows l = l.n - l.c
 
 abbrev pub invariant-loop-j : goal.invariant-loop-j
-invariant-loop-j l = (l.c ≡ l.initial.c) × (first_not (λ j. passes (entry_of l.grid.next.now) l.w (get_or l.column-items j 0) l.row j) l.j ≡ None)
+invariant-loop-j l = (l.c ≡ l.initial.c) × (l.j ≤ l.w + 2) × (first_not (λ j. passes (entry_of l.grid.next.now) l.w (get_or l.columns j 0) l.row j) l.j ≡ None)
+
+abbrev pub decreases-loop-j : goal.decreases-loop-j
+decreases-loop-j l = l.w + 2 - l.j
