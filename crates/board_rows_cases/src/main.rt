@@ -17,30 +17,10 @@ fn main() {
         "numbers, two cells for each binary digit, in five rows each: ",
         2,
     );
-    bytes_changed(
-        "row 1 of 3 cells in a board of 6, bytes changed: ",
-        3,
-        3,
-        0,
-    );
-    bytes_changed(
-        "row 2 of 3 cells in a board of 6, bytes changed: ",
-        3,
-        3,
-        1,
-    );
-    bytes_changed(
-        "row 3 of 3 cells in a board of 6, bytes changed: ",
-        3,
-        3,
-        2,
-    );
-    bytes_changed(
-        "row 2 of 4 cells in a board of 6, bytes changed: ",
-        4,
-        4,
-        1,
-    );
+    bytes_changed("row 1 of 3 cells in a board of 6, bytes changed: ", 3, 3, 0);
+    bytes_changed("row 2 of 3 cells in a board of 6, bytes changed: ", 3, 3, 1);
+    bytes_changed("row 3 of 3 cells in a board of 6, bytes changed: ", 3, 3, 2);
+    bytes_changed("row 2 of 4 cells in a board of 6, bytes changed: ", 4, 4, 1);
     bytes_changed("row 2^64 of 3 cells, bytes changed: ", 3, 3, usize::MAX);
     bytes_changed(
         "row 2 of 2^63 cells, bytes changed: ",

@@ -29,13 +29,7 @@ fn try_all(a: &mut [u16], b: &mut [u16], wide: &mut [u16]) {
 fn try_whole_layers(a: &mut [u16], b: &mut [u16]) {
     fills::try_group("whole layers, Conway's rule: ", Group::Conway, 300, a, b);
     fills::try_group("whole layers, other rules: ", Group::Rules, 300, a, b);
-    fills::try_group(
-        "whole layers, tables of no rule: ",
-        Group::Bytes,
-        300,
-        a,
-        b,
-    );
+    fills::try_group("whole layers, tables of no rule: ", Group::Bytes, 300, a, b);
     fills::try_group("whole layers, other wants: ", Group::Wants, 240, a, b);
 }
 

@@ -3,10 +3,10 @@
 #![tactic(auto)]
 
 use life::Change;
-use report::Output;
-use std::fmt::Write;
 use plain::digits;
+use report::Output;
 use rule::Rule;
+use std::fmt::Write;
 
 mod compared;
 mod plain;

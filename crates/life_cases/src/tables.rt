@@ -86,12 +86,7 @@ pub fn refused() {
     fill("table, 511 entries", 8, 12, &mut [9; 511]);
     fill("table, 513 entries", 8, 12, &mut [9; 513]);
     fill("table, 512 entries", 8, 12, &mut [9; 512]);
-    fill(
-        "table, all counts but births on 0",
-        510,
-        511,
-        &mut [9; 512],
-    );
+    fill("table, all counts but births on 0", 510, 511, &mut [9; 512]);
 }
 
 // Fills entries of nines, and prints how many are no nine afterwards.

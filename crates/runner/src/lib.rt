@@ -34,7 +34,12 @@ pub fn solve(
 }
 
 // Works an opened job until it ends.
-fn run(start: Job, givens: &[u8], table: &mut [u16], board: &mut [u8]) -> Result<Option<usize>, Refusal>
+fn run(
+    start: Job,
+    givens: &[u8],
+    table: &mut [u16],
+    board: &mut [u8],
+) -> Result<Option<usize>, Refusal>
     requires { Ready start givens.now }
     ensures { Runs start givens.now table.old board.old result table.new board.new }
 {
