@@ -4,7 +4,9 @@ ghost use Rattle.std.specs.Prelude.{◌≤◌};
 use crate::calls::Call;
 use board::ChosenRow;
 use rule::Rule;
-use score_table::NONE;
+
+// None, apart from the library's.
+const NONE: u16 = 65535;
 
 // What is searched by: a rule, a call, and the givens or the target that it is lent.
 #[derive(Clone, Copy)]
@@ -19,6 +21,11 @@ pub struct Search<'a> {
 pub struct Found {
     pub row: ChosenRow,
     sum: usize,
+}
+
+// The binary digits of a row's number, apart from the library.
+fn digits(halves: bool, w: usize) -> usize {
+    if halves { w / 2 } else { w }
 }
 
 // Of two rows the second of which comes later, the better.
@@ -64,7 +71,7 @@ impl Search<'_> {
     pub fn codes(self) -> usize
         ensures { 1 ≤ result }
     {
-        match board::row_digits(self.call.want.halves, self.call.width) {
+        match digits(self.call.want.halves, self.call.width) {
             1 => 2,
             2 => 4,
             3 => 8,
@@ -179,7 +186,7 @@ impl Search<'_> {
         if j == 0 || w < j {
             return 0;
         }
-        let n = board::row_digits(self.call.want.halves, w);
+        let n = digits(self.call.want.halves, w);
         let i = if j <= n { n - j } else { j - (n + 1) };
         (c >> (i % 64)) % 2
     }

@@ -19,17 +19,45 @@ impl Write for Output {
     }
 }
 
-pub fn text(s: &str) {
-    let _ = Output.write_str(s);
+// What is written as it stands: text, and bytes of any kind.
+pub trait Bytes {
+    fn write(self);
+}
+
+impl Bytes for &str {
+    fn write(self) {
+        io::write_all(1, self.as_bytes());
+    }
+}
+
+impl Bytes for &[u8] {
+    fn write(self) {
+        io::write_all(1, self);
+    }
+}
+
+impl<const N: usize> Bytes for &[u8; N] {
+    fn write(self) {
+        io::write_all(1, self);
+    }
+}
+
+pub fn text<B: Bytes>(s: B) {
+    s.write();
+}
+
+pub fn number(n: usize) {
+    let _ = write!(Output, "{n}");
 }
 
 // A line: a name and a value.
-pub fn line<D: Display + Drop>(name: &str, value: D) {
-    let _ = writeln!(Output, "{name}{value}");
+pub fn line<B: Bytes, D: Display + Drop>(name: B, value: D) {
+    text(name);
+    let _ = writeln!(Output, "{value}");
 }
 
 // A line: a name, and what a check came to.
-pub fn check(name: &str, c: Result<(), Refusal>) {
+pub fn check<B: Bytes>(name: B, c: Result<(), Refusal>) {
     match c {
         Ok(()) => line(name, ": passed"),
         Err(r) => {

@@ -21,5 +21,5 @@ fn run(text: &mut [u8], givens: &mut [u8], table: &mut [u16], board: &mut [u8], 
 {
     let n = io::read_full(0, text);
     let printed = puzzle::answer(&text[..n], givens, table, board, output);
-    io::write_all(1, &output[..printed]);
+    report::text(&output[..printed]);
 }

@@ -239,7 +239,17 @@ fn with_rows(case: &Case, k: usize, units: usize, mark: usize) -> Checkpoint {
         mark,
         births: case.rule.births,
         survivals: case.rule.survivals,
-        kind: s.kind.number(),
+        kind: number_of(s.kind),
+    }
+}
+
+// A kind's number, apart from the library.
+fn number_of(kind: Kind) -> usize {
+    match kind {
+        Kind::Ordinary => 0,
+        Kind::TwoLayers => 1,
+        Kind::Mirror => 2,
+        Kind::Predecessor => 3,
     }
 }
 

@@ -6,8 +6,10 @@ use crate::Size;
 use board::Refusal;
 use job::{Job, Stage};
 use rule::Rule;
+use solver::Status;
 
-// The job after working calls with these allowances, with a pause and a resumption before each; the first refusal. With none it is the job.
+// The job after working calls with these allowances, with a pause and a resumption before each; the first refusal, and 7 where a call answers what its
+// job's stage isn't. With no allowance it is the job.
 pub fn in_pieces(
     job: Job,
     givens: &[u8],
@@ -20,10 +22,21 @@ pub fn in_pieces(
     let mut last = job;
     for allowance in allowances {
         let worked = solver::work(resumed(last)?, givens, table, board, *allowance);
-        let _ = worked.status?;
+        if worked.status? != status_of(worked.job.stage) {
+            return Err(Refusal::Checkpoint);
+        }
         last = worked.job;
     }
     Ok(last)
+}
+
+// What a working call has to answer with a job in a stage.
+fn status_of(stage: Stage) -> Status {
+    match stage {
+        Stage::Filling { .. } | Stage::Choosing { .. } => Status::Unfinished,
+        Stage::Finished { score, .. } => Status::Finished(score),
+        Stage::Infeasible => Status::Infeasible,
+    }
 }
 
 // The job resumed from the numbers that pausing gives.

@@ -5,14 +5,14 @@ use native.Mathlib.Omega.{arith}
 use lib.Seq.{length-take-le}
 use Rattle.setter.proofs.run.Goals as goal
 
-pub slice_bounds-write_all-end : goal.slice_bounds-write_all-end
-slice_bounds-write_all-end c =
+pub slice_bounds-text-end : goal.slice_bounds-text-end
+slice_bounds-text-end c =
     let i = (c.answer-printed.ensures.answered c.requires.1).inside in
     let k = c.answer-printed.auto.output in
     omega arith
 
-pub slice_bounds-write_all-end-2 : goal.slice_bounds-write_all-end-2
-slice_bounds-write_all-end-2 c =
+pub slice_bounds-text-end-2 : goal.slice_bounds-text-end-2
+slice_bounds-text-end-2 c =
     let i = (c.answer-printed.ensures.answered c.requires.1).inside in
     let k = c.answer-printed.auto.output in
     sym (length-take-le _ _ (omega arith))
