@@ -1,6 +1,6 @@
 -- Document 01, "Turned away": answers in the paper's numbers, the order of checks, and what a refused call leaves.
 -- Assumes nothing.
-use Rattle.std.specs.Prelude.{◌≡◌, Bool, cond, List, [], ◌∷◌, ℕ, Option, None, Some, Result, Ok, Err}
+use Rattle.std.specs.Prelude.{◌≡◌, Bool, cond, List, [], ◌∷◌, ◌++◌, ℕ, codes, decimal, Option, None, Some, Result, Ok, Err}
 use Rattle.board.specs.declared.Refusal.{Refusal}
 use Rattle.board.specs.declared.Refusal.TheVariants.{Width, Height, GivensLength, Mark, BoardLength, ShortTable, Checkpoint, Letter, SpoiledTable, ShortOutput, Cell, LongText, Rule, EdgeThree, Lopsided}
 
@@ -46,6 +46,15 @@ values_of LongText = []
 values_of Rule = []
 values_of (EdgeThree place) = place ∷ []
 values_of (Lopsided place) = place ∷ []
+
+-- how a place is printed after the number: nothing where there is none
+abbrev pub place_text : List ℕ → List ℕ
+place_text [] = []
+place_text (place ∷ rest) = codes " at " ++ decimal place
+
+-- a refusal as programs print it: its number in decimal digits, and its place where it has one
+abbrev pub refusal_text : Refusal → List ℕ
+refusal_text r = decimal (number_of r) ++ place_text (values_of r)
 
 abbrev pub refusal_says : Refusal → Answer
 refusal_says r = refuses (number_of r) (values_of r)

@@ -1,8 +1,8 @@
 // What every call on a board shares: the refusals, and the checks of a size, a board, a grid of givens, a target and a table.
 #![tactic(auto)]
 
-ghost use Rattle.std.specs.Prelude.{◌≡◌, ◌*◌, eqb, length, position, nat_lt, option_to_list};
-ghost use Rattle.board.specs.Answers.{number_of, values_of, check_says};
+ghost use Rattle.std.specs.Prelude.{◌≡◌, ◌*◌, eqb, length, position, nat_lt, option_to_list, Some};
+ghost use Rattle.board.specs.Answers.{number_of, values_of, refusal_text, check_says};
 ghost use Rattle.board.specs.Boards.{among, row_digits, width_fits, byte_at};
 ghost use Rattle.board.specs.Checks.{width_check, height_check, size_check, cells_check, board_check, marks_check, givens_check, target_check, at_most, table_size_within, table_check};
 ghost use Rattle.board.specs.Search.{first_not};
@@ -41,6 +41,8 @@ impl Error for Refusal {}
 
 // As programs print it: the number, and the place where there is one.
 impl fmt::Display for Refusal {
+    ghost output = { λ r. Some (refusal_text r) };
+
     fn fmt<W: fmt::Write>(&self, f: &mut fmt::Formatter<W>) -> fmt::Result {
         match self.place() {
             Some(place) => write!(f, "{} at {place}", self.number()),
