@@ -3,7 +3,6 @@
 use mathlib.Core.Path.{◌≡◌, refl}
 use mathlib.Core.Bool.{Bool, true, false, cond, ◌&&◌}
 use mathlib.Core.List.{List}
-use mathlib.Core.Logic.{◌⊎◌, inl, inr}
 use Prim.Native.Nat.{ℕ, zero, suc, ◌+◌, ◌*◌, ◌-◌, ◌<◌, ◌≤◌}
 use native.Mathlib.Nat.{not-suc-le-zero, mul_comm, le_of_suc-le-suc}
 use native.Mathlib.Numerals.{add-one, add-two}
@@ -12,7 +11,7 @@ use lib.Arith.{digits_lt}
 use lib.IntN.{ℤ, pos, negsuc, suc_ℤ, pred_ℤ}
 use lib.ListN.{length, get_or, get_or-eq_default}
 use native.Mathlib.Decide.{dec_lt}
-use Rattle.board.specs.Boards.{among, Bytes, byte_at}
+use Rattle.board.specs.Boards.{among, Bytes}
 use Rattle.board.proofs.Tests.{among_past, and_false, byte_at_lem}
 use Rattle.life.specs.Plane.{on_plane, around}
 
@@ -54,26 +53,26 @@ off_low n zero l = before 0
 off_low n (suc zero) l = nought
 off_low n (suc (suc i)) l = absurd (not-suc-le-zero (le_of_suc-le-suc (le_of_suc-le-suc l)))
 
+pub off_high : (n i : ℕ) → n + 1 < i → Off n (pred_ℤ (pos i))
+off_high n zero l = absurd (not-suc-le-zero l)
+off_high n (suc i) l = past i (omega arith)
+
+-- one before a number that stands on the board
+pub pred_two : (i : ℕ) → 2 ≤ i → pred_ℤ (pos i) ≡ pos (suc (i - 2))
+pred_two zero l = absurd (not-suc-le-zero l)
+pred_two (suc zero) l = absurd (not-suc-le-zero (le_of_suc-le-suc l))
+pred_two (suc (suc i)) l = let e : suc (suc i) - 2 ≡ i = omega arith in rw e
+
 pub pred_one : (i : ℕ) → pred_ℤ (pos (i + 1)) ≡ pos i
 pred_one i = rw (add-one i)
 
 pub pred_one_more : (i : ℕ) → pred_ℤ (pos (i + 2)) ≡ suc_ℤ (pos i)
 pred_one_more i = rw (add-two i)
 
--- a cell counted from one before the ring: none stands there, and the others are the board's
-pub first_off : (w h : ℕ) (cells : List ℕ) (i j : ℕ) → (i ≡ 0) ⊎ ((i ≡ 0 → ⊥) × (j ≡ 0)) → on_plane w h cells (pred_ℤ (pos i)) (pred_ℤ (pos j)) ≡ 0
-first_off w h cells i j (inl e) = off_row w h cells (off_low h i (omega arith)) (pred_ℤ (pos j))
-first_off w h cells i j (inr e) = off_column w h cells (off_low w j (omega (arith, e.1))) (pred_ℤ (pos i))
-
-pub cell_at : (w h : ℕ) (cells : List ℕ) (i j : ℕ) → (i ≡ 0 → ⊥) → (j ≡ 0 → ⊥)
-    → on_plane w h cells (pred_ℤ (pos i)) (pred_ℤ (pos j)) ≡ byte_at w h cells (i - 1) (j - 1)
-unfolding on_plane
-cell_at w h cells zero j p q = absurd (p refl)
-cell_at w h cells (suc i) zero p q = absurd (q refl)
-cell_at w h cells (suc i) (suc j) p q =
-    let e : suc i - 1 ≡ i = omega arith in
-    let f : suc j - 1 ≡ j = omega arith in
-    rw (e, f)
+-- a cell of the board, counted from one before the ring
+pub on_board_at : (w h : ℕ) (cells : List ℕ) (i j : ℕ) → 2 ≤ i → i ≤ h + 1 → 2 ≤ j → j ≤ w + 1
+    → on_plane w h cells (pred_ℤ (pos i)) (pred_ℤ (pos j)) ≡ get_or cells ((i - 2) * w + (j - 2)) 0
+on_board_at w h cells i j p q s t = rw (pred_two i p, pred_two j s) (on_board w h cells (i - 2) (j - 2) (omega arith) (omega arith))
 
 -- ---- cells are 0 or 1
 module _ {w h : ℕ} {cells : List ℕ} (b : Bytes 1 w h cells) where

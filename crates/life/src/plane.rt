@@ -24,10 +24,10 @@ impl Plane<'_> {
     fn cell(&self, i: usize, j: usize) -> u8
         ensures { (result ≡ on_plane self.now.width self.now.height self.now.cells.now (pred_ℤ (pos i)) (pred_ℤ (pos j))) × (result ≤ 1) }
     {
-        if i == 0 || j == 0 {
+        if i < 2 || self.height + 1 < i || j < 2 || self.width + 1 < j {
             return 0;
         }
-        board::byte_at(self.cells, self.width, self.height, i - 1, j - 1)
+        self.cells[(i - 2) * self.width + (j - 2)]
     }
 
     // The cells in columns c - 1, c and c + 1 of row i - 1, as three digits.
