@@ -18,8 +18,10 @@ use Rattle.board.specs.Search.{first_not}
 use Rattle.board.proofs.Search.{position_first}
 use Rattle.writer.specs.Letters.{LF, is_letter}
 use Rattle.writer.proofs.Over.{rest_whole}
+use Rattle.plaintext.specs.declared.line.Line as held
 use Rattle.plaintext.specs.Lines.{Line, empty_line, in_front, lines_of}
-use Rattle.plaintext.specs.Reading.{ends_in_cr, without_cr, letter_at, judge, judge_lines, judged}
+use Rattle.plaintext.specs.Reading.{ends_in_cr, without_cr, letter_at, judge_lines, judged}
+use Rattle.plaintext.specs.Scanning.{StartsAt, judged_line}
 
 -- ---- the bytes of a line's row
 -- they are the first bytes of the line
@@ -105,13 +107,18 @@ module _ (text : List ℕ) (at : ℕ) (inside : at < length text) {lf : Option �
   within : n ≤ length rest
   within = rw ends (prefix_len-le-length _ rest)
 
-  pub line_fits : at + n ≤ length text
+  line_fits : at + n ≤ length text
   line_fits = omega (arith, within, long)
 
-  pub judged_next : judged text at
-      ≡ judge at (record { bytes = take n (take (length text - at) rest); ended = ltb n (length (take (length text - at) rest)) }) ∷ judged text (at + n + 1)
-  unfolding judged judge_lines
-  judged_next =
+  pub line_starts : (l : held.Line) → l.from ≡ at → l.bytes.now ≡ take n (take (length text - at) rest) → l.ended ≡ ltb n (length (take (length text - at) rest))
+      → StartsAt text at l
+  line_starts l place bytes ended =
+      let m : length l.bytes.now ≡ n = rw (bytes, lent) (length-take-le n rest within) in
       let c = cut rest n (omega (arith, long)) within (λ k l. fails_before_first _ rest k 0 (rw ends at l)) (λ l. rw ends (passes_at_first _ rest 0 (rw ends at l))) in
       let d : drop (suc n) rest ≡ drop (at + n + 1) text = drop-drop (suc n) at text ∙ ap (λ (k : ℕ). drop k text) (let q : at + suc n ≡ at + n + 1 = omega arith in q) in
-      rw (lent, c, length-take-le n rest within, d)
+      record { place = place; inside = rw m line_fits; first = rw (m, bytes, ended, lent, c, d) }
+
+-- the line that starts at a place is judged, and then the lines after it
+pub judged_next : (text : List ℕ) (at : ℕ) (l : held.Line) → StartsAt text at l → judged text at ≡ judged_line l ∷ judged text (l.from + length l.bytes.now + 1)
+unfolding judged judge_lines
+judged_next text at l s = rw (s.first, s.place)

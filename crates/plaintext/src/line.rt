@@ -16,7 +16,21 @@ pub struct Line<'a> {
 }
 
 impl<'a> Line<'a> {
-    ghost use Rattle.plaintext.specs.Scanning.{line_of, judged_line, Told};
+    ghost use Rattle.plaintext.specs.Scanning.{line_of, StartsAt, judged_line, Told};
+
+    // The line that starts at a place: up to its LF, or to the end of the text.
+    fn at(text: &'a [u8], from: usize) -> Line<'a>
+        requires { from < length text.now }
+        ensures { StartsAt text.now from result }
+    {
+        let rest = &text[from..];
+        let length = first_lf(rest).unwrap_or(rest.len());
+        Line {
+            from,
+            bytes: &rest[..length],
+            ended: length < rest.len(),
+        }
+    }
 
     // The letters of the row that the line is; none where it is a comment. Refusal 8, with the place of the first byte that isn't allowed.
     #[tactic(auto, unfolding(crate::specs::Reading::judge), using(crate::proofs::Lines::first_other_is))]
@@ -68,29 +82,22 @@ impl<'a> Lines<'a> {
 }
 
 impl<'a> Iterator for Lines<'a> {
-    ghost use Rattle.std.specs.Iterator.{YieldsFirstBy, item_count};
-    ghost use Rattle.plaintext.specs.Scanning.{judged_line, judged_left};
+    ghost use Rattle.std.specs.Iterator.{item_count};
+    ghost use Rattle.plaintext.specs.Scanning.{judged_left, GivesLine};
 
     type Item = Line<'a>;
 
-    ghost next_gives = { YieldsFirstBy judged_line judged_left };
+    ghost next_gives = { GivesLine };
 
     ghost remaining = { item_count judged_left };
 
     fn next(&mut self) -> Option<Line<'a>> {
-        let text = self.text;
-        let from = self.at;
-        if text.len() <= from {
+        if self.text.len() <= self.at {
             return None;
         }
-        let rest = &text[from..];
-        let length = first_lf(rest).unwrap_or(rest.len());
-        self.at = from + length + 1;
-        Some(Line {
-            from,
-            bytes: &rest[..length],
-            ended: length < rest.len(),
-        })
+        let line = Line::at(self.text, self.at);
+        self.at = line.from + line.bytes.len() + 1;
+        Some(line)
     }
 }
 
