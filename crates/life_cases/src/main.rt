@@ -248,7 +248,10 @@ fn step(name: &str, rule: Rule, w: usize, h: usize, cells: &[u8], ring: &mut [u8
 // A line: a name and a board's verdict.
 fn judge(name: &str, rule: Rule, w: usize, h: usize, cells: &[u8]) {
     match life::judge(rule, w, h, cells) {
-        Ok(None) => report::line(name, ": still"),
+        Ok(None) => {
+            report::text(name);
+            report::text(": still\n");
+        }
         Ok(Some(Change { row, column })) => {
             let _ = writeln!(Output, "{name}: changes at row {row}, column {column}");
         }

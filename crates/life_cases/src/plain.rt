@@ -85,7 +85,7 @@ fn number_of(counts: &[bool; 10]) -> usize {
 }
 
 // Pseudo-random cells and rules, by a linear congruence modulo 2^31.
-#[derive(Drop)]
+#[derive(Clone, Copy)]
 pub struct Random {
     state: u64,
 }

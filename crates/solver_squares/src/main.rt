@@ -2,9 +2,14 @@
 // kinds of job, and the boards compared; side 10 by two layers only, since its whole table is more than a program's stack holds.
 #![tactic(auto)]
 
+ghost use Rattle.std.specs.Prelude.{◌≡◌};
+ghost use Rattle.rule.specs.Rule.{conway_rule};
+ghost use Rattle.life.specs.Calls.{verdict_says, judge_rule};
+
 use board::Refusal;
 use job::{Job, Stage};
 use job_kind::Kind;
+use life::Change;
 use std::fmt::Write;
 
 fn main() {
@@ -62,7 +67,7 @@ fn solve(kind: Kind, side: usize, table: &mut [u16], board: &mut [u8]) -> Option
         &mut table[..entries],
         &mut board[..n],
     ) {
-        Ok(job) => print(job, &board[..n]),
+        Ok(job) => print(side, job, &board[..n]),
         Err(r) => {
             report::refusal(r);
             None
@@ -83,7 +88,7 @@ fn run(
 }
 
 // The score, the units, and the judge's verdict on the board. A finished job's score.
-fn print(job: Job, board: &[u8]) -> Option<usize> {
+fn print(side: usize, job: Job, board: &[u8]) -> Option<usize> {
     let score = match job.stage {
         Stage::Finished { score, .. } => Some(score),
         _ => None,
@@ -95,12 +100,19 @@ fn print(job: Job, board: &[u8]) -> Option<usize> {
         None => report::text(": not finished"),
     }
     let _ = write!(report::Output, ", units {}", job.units);
-    match life::judge(job.rule, job.width, job.height, board) {
+    match judged(side, board) {
         Ok(None) => report::text(", still"),
         Ok(Some(_)) => report::text(", not still"),
         Err(r) => report::refusal(r),
     }
     score
+}
+
+// The judge's verdict on a square, by the rule and the size that were asked for, whatever a job says of its own.
+fn judged(side: usize, board: &[u8]) -> Result<Option<Change>, Refusal>
+    ensures { verdict_says result ≡ judge_rule conway_rule side side board.now }
+{
+    life::judge(rule::conway(), side, side, board)
 }
 
 // The rows of a board of width 3, as numbers.

@@ -1,5 +1,5 @@
 // Steps of a board by a plain count of neighbours, and the best still board by enumeration. A row is the number whose digits are its cells.
-ghost use Rattle.std.specs.Prelude.{◌≡◌, ◌+◌, ◌*◌, ◌%◌, ◌^◌, ◌<◌, ◌≤◌, IfSome, take, drop, fold};
+ghost use Rattle.std.specs.Prelude.{◌≡◌, ◌+◌, ◌*◌, ◌%◌, ◌^◌, ◌<◌, ◌≤◌, ◌-◌, true, None, All, IfSome, take, drop, fold};
 
 use crate::Case;
 use crate::marks::Masks;
@@ -63,14 +63,23 @@ pub(crate) fn steps(rule: Rule, w: usize, rows: [usize; 3], to: usize) -> bool {
     (0..end).all(|j| next(rule, rows, j) == cell(to, j))
 }
 
-// The first row, the ring's counted, in which a board does not step to a target with a dead ring.
+// Whether the cells of a row are 0 or 1, so that its number is of these cells alone. The ring's are.
+fn is_of_cells(board: &[u8], w: usize, h: usize, r: usize) -> bool
+    ensures { result ≡ true → 0 < r → r ≤ h → All (λ cell. cell < 2) (take w (drop ((r - 1) * w % 2 ^ 64) board.now)) }
+{
+    let mut row = board.iter().skip(r.wrapping_sub(1).wrapping_mul(w)).take(w);
+    r == 0 || h < r || row.all(|cell| *cell < 2)
+}
+
+// The first row, the ring's counted, in which a board does not step to a target with a dead ring, or has a byte that is no cell. Row 2 ^ 64 - 1 is never looked at.
 pub fn first_unlike(rule: Rule, w: usize, h: usize, board: &[u8], target: &[u8]) -> Option<usize>
-    ensures { IfSome result (λ r. r < h + 2) }
+    ensures inside { IfSome result (λ r. r < h + 2) }
+    ensures cells { result ≡ None → h * w < 2 ^ 64 - 1 → All (λ cell. cell < 2) (take (h * w) board.now) }
 {
     let row = |r: usize| row_of(board, w, h, r);
     (0..h.saturating_add(2)).find(|r| {
         let rows = [row(r.wrapping_sub(1)), row(*r), row(r.wrapping_add(1))];
-        !steps(rule, w, rows, row_of(target, w, h, *r))
+        !is_of_cells(board, w, h, *r) || !steps(rule, w, rows, row_of(target, w, h, *r))
     })
 }
 

@@ -1,4 +1,9 @@
 // What the library answers for a grid: solved whole in one call, or in pieces.
+ghost use Rattle.std.specs.Prelude.{◌≡◌, ◌↔◌, [], ◌∷◌, ℕ, Err};
+ghost use Rattle.board.specs.Answers.{refuses};
+ghost use Rattle.board.specs.declared.Refusal.TheVariants.{EdgeThree};
+ghost use Rattle.job.specs.Jobs.{open_rule};
+
 use crate::cells;
 use crate::cells::Cells;
 use board::Refusal;
@@ -80,13 +85,21 @@ fn lend(way: Way, grid: Cells, table: &mut [u16]) -> Solution {
 }
 
 // Working calls with pseudo-random allowances, a pause and a resumption before each; the last one ends the job, or its answer is none of the above.
-fn in_pieces(way: Way, grid: Cells, givens: &[u8], table: &mut [u16], board: &mut [u8]) -> Answer {
+// Refused by 14 exactly where opening is, with the same place.
+fn in_pieces(way: Way, grid: Cells, givens: &[u8], table: &mut [u16], board: &mut [u8]) -> Answer
+    ensures { (place : ℕ) → result ≡ Err (EdgeThree place) ↔
+        open_rule way.kind way.rule grid.w grid.h givens.now ≡ refuses 14 (place ∷ []) }
+{
     let mut allowances = [u32::MAX; PIECES]; // the last one more than any job has
     for (k, allowance) in allowances.iter_mut().take(PIECES - 1).enumerate() {
         *allowance = part(table.len(), way.seed, k);
     }
     let job = job::open(way.kind, way.rule, grid.w, grid.h, givens)?;
-    match trials::in_pieces(job, givens, table, board, &allowances)?.stage {
+    // A grid that was opened isn't refused later: whatever it is refused by then is none of the answers that can be the same.
+    let Ok(ended) = trials::in_pieces(job, givens, table, board, &allowances) else {
+        return Err(Refusal::Checkpoint);
+    };
+    match ended.stage {
         Stage::Finished { score, .. } => Ok(Some(score)),
         Stage::Infeasible => Ok(None),
         _ => Err(Refusal::Checkpoint),
